@@ -22,7 +22,7 @@ import program
 import reasons
 from inputs import COVER_KINDS, DIAGNOSE_KINDS, KINDS, WAVE_KINDS, Case, case_of
 from refusal import Refusal
-from waves import waves, without_strings
+from waves import Asked, waves, without_strings
 
 CASES = 450
 WAVE_CASES = 40
@@ -40,6 +40,10 @@ WORDS = {"check": ["check"], "check, explained": ["check", "--explain"], "play":
          "waves, noted": ["play", "--vcd-fails", "--vcd", WAVE_FILE],
          "waves to the end, noted": ["play", "--all", "--vcd-fails", "--vcd", WAVE_FILE],
          "waves, noted and plain": ["play", "--vcd-plain", "--vcd-fails", "--vcd", WAVE_FILE],
+         "waves with names": ["play", "--vcd", WAVE_FILE, "--vcd-names"],
+         "waves with TDOs": ["play", "--all", "--vcd-tdo", "--vcd", WAVE_FILE],
+         "waves with all": ["play", "--vcd-names", "--vcd-fails", "--vcd-tdo", "--vcd", WAVE_FILE],
+         "waves with all, plain": ["play", "--vcd-names", "--vcd-fails", "--vcd-tdo", "--vcd-plain", "--vcd", WAVE_FILE],
          "reasons": ["play", "--all", "--explain"], "cover": ["cover"], "cover, listed": ["cover", "--list"]}
 
 
@@ -97,12 +101,14 @@ def expected_waves(case: Case) -> dict[str, program.Answer]:
         return {}
     if length_of(its_program) > LONGEST_WAVE:
         return {}
-    ends = {"waves": (False, False), "waves to the end": (True, False), "waves, noted": (False, True),
-            "waves to the end, noted": (True, True)}
-    drawn = {command: program.play(board, its_program, end)._replace(out=waves(board, case.text, end, noted))
-             for command, (end, noted) in ends.items()}
-    noted = drawn["waves, noted"]
-    return {**drawn, "waves, noted and plain": noted._replace(out=without_strings(noted.out))}
+    ends = {"waves": (False, Asked()), "waves to the end": (True, Asked()), "waves, noted": (False, Asked(noted=True)),
+            "waves to the end, noted": (True, Asked(noted=True)), "waves with names": (False, Asked(names=True)),
+            "waves with TDOs": (True, Asked(tdos=True)), "waves with all": (False, Asked(True, True, True))}
+    drawn = {command: program.play(board, its_program, end)._replace(out=waves(board, case.text, end, asked))
+             for command, (end, asked) in ends.items()}
+    noted, nameless = drawn["waves, noted"], waves(board, case.text, False, Asked(noted=True, tdos=True))
+    return drawn | {"waves, noted and plain": noted._replace(out=without_strings(noted.out)),
+                    "waves with all, plain": noted._replace(out=without_strings(nameless))}
 
 
 def expected_covers(case: Case) -> dict[str, program.Answer]:

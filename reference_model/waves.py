@@ -1,12 +1,15 @@
-"""The waves of a play: the value change dump that `play --vcd FILE [--all] [--vcd-fails] [--vcd-plain]` draws.
+"""The waves of a play: the value change dump that `play --vcd FILE [--all]` draws, with `--vcd-fails`, `--vcd-names`,
+`--vcd-tdo` and `--vcd-plain`.
 
 Each message of the play is put to the board of edges, and behind it all that is shown is worked out anew: what
 differs from what was drawn last is written. What is told of the bits that a scan wants (`--vcd-fails`) is written
-before the message at whose time it becomes so.
+before the message at whose time it becomes so. What is drawn of devices besides (`--vcd-names`, `--vcd-tdo`) stands
+behind all else of its time.
 """
 
 from __future__ import annotations
 
+from dataclasses import dataclass
 from itertools import count
 
 from board import Board, EdgeBoard
@@ -18,6 +21,7 @@ DRAWN_RESTS = 128  # messages of a rest, after which TCK is drawn as unknown
 LATEST = 2 ** 63 - 2
 FIRST_SIGN, SIGNS = 33, 94  # `!` to `~`
 LINES = ("TCK", "TMS", "TDI", "TDO", "TRST")
+EXTRAS = (("string 1", "instruction_name"), ("wire 1", "tdo"))
 NOTES = (("wire 1", "wanted"), ("wire 1", "fail"), ("integer 32", "bit"), ("string 1", "part"))
 STATE_CODES = {
     "DREXIT2": 0x0, "DREXIT1": 0x1, "DRSHIFT": 0x2, "DRPAUSE": 0x3, "IRSELECT": 0x4, "DRUPDATE": 0x5, "DRCAPTURE": 0x6,
@@ -34,8 +38,26 @@ def sign(number: int) -> str:
     return chr(FIRST_SIGN + digit) + (sign(rest) if rest else "")
 
 
-def heading(board: Board, noted: bool) -> str:
-    """The variables in their scopes, numbered in order; those of the bits that are wanted come last in that."""
+@dataclass(frozen=True)
+class Asked:
+    """What is drawn besides: bits that are wanted, and of each device the name of its instruction, and its TDO."""
+    noted: bool = False
+    names: bool = False
+    tdos: bool = False
+
+    def extras(self) -> list[int]:
+        """Which of the two extras are drawn."""
+        return [place for place, drawn in enumerate((self.names, self.tdos)) if drawn]
+
+
+def first_of_extras(board: Board) -> int:
+    """Numbers are counted as if the bits that are wanted were always drawn."""
+    return len(LINES) + 1 + 3 * len(board.parts) + len(board.nets) + len(NOTES)
+
+
+def heading(board: Board, asked: Asked) -> str:
+    """The variables in their scopes, numbered in order; those of the bits that are wanted come behind all others in
+    that, and behind them those of devices that are drawn besides."""
     numbers = count()
     notes = count(len(LINES) + 1 + 3 * len(board.parts) + len(board.nets))
 
@@ -44,13 +66,18 @@ def heading(board: Board, noted: bool) -> str:
 
     lines = ["$timescale 1 ps $end", "$scope module board $end", "$scope module tap $end"]
     lines += [variable("wire 1", name) for name in LINES] + [variable("integer 32", "statement")]
-    lines += [f"$var {kind} {sign(next(notes))} {name} $end" for kind, name in NOTES if noted] + ["$upscope $end"]
+    lines += [f"$var {kind} {sign(next(notes))} {name} $end" for kind, name in NOTES if asked.noted] + ["$upscope $end"]
     for part in board.parts:
         instruction = f"reg {len(part.device.capture)}"
         lines += [f"$scope module {part.name} $end", variable("reg 4", f"{part.name}_state"),
                   variable("string 1", f"{part.name}_word"), variable(instruction, f"{part.name}_instruction"),
                   "$upscope $end"]
     lines += [variable("wire 1", net.name) for net in board.nets]
+    for place, part in enumerate(board.parts if asked.extras() else []):
+        first = first_of_extras(board) + len(EXTRAS) * place
+        its = [(EXTRAS[which], sign(first + which)) for which in asked.extras()]
+        lines += [f"$scope module {part.name} $end",
+                  *(f"$var {kind} {code} {part.name}_{name} $end" for (kind, name), code in its), "$upscope $end"]
     return "".join(line + "\n" for line in [*lines, "$upscope $end", "$enddefinitions $end"])
 
 
@@ -61,15 +88,17 @@ def level(bit: int | None, none: str) -> str:
 class Drawing:
     """A board that takes a play, and what was drawn of it last; `tck` is None within a stretch of rest."""
 
-    def __init__(self, board: Board, noted: bool):
-        self.edges = EdgeBoard(board)
+    def __init__(self, board: Board, asked: Asked):
+        self.edges, self.asked, self.first_extra = EdgeBoard(board), asked, first_of_extras(board)
         self.tck, self.tms, self.tdi = 0, None, None
         self.time = self.rested = self.statement = 0
         self.values = self.shown()
         self.wanted, self.fails = "x", "0"
-        first = [*self.values, *("x", "0", "bx ", "snone ")[:4 * noted]]
+        self.more = self.shown_besides()
+        first = [*self.values, *("x", "0", "bx ", "snone ")[:4 * asked.noted]]
         lines = "".join(f"{value}{sign(number)}\n" for number, value in enumerate(first))
-        self.pieces = [heading(board, noted), f"#0\n$dumpvars\n{lines}$end\n"]
+        lines += "".join(f"{value}{sign(number)}\n" for number, value in self.more.items())
+        self.pieces = [heading(board, asked), f"#0\n$dumpvars\n{lines}$end\n"]
 
     def shown(self) -> list[str]:
         """All values in the order of the variables, with the blank behind those of more than one letter."""
@@ -80,6 +109,15 @@ class Drawing:
             latch = "".join(str(bit) for bit in reversed(chip.latch))
             values += [f"b{STATE_CODES[state]:04b} ", f"s{state} ", f"b{latch} "]
         return values + [LEVELS[its_level] for its_level in edges.levels().named]
+
+    def shown_besides(self) -> dict[int, str]:
+        """By the number of its variable what is shown of devices besides."""
+        found, number = {}, self.first_extra
+        for chip, output in zip(self.edges.chips, self.edges.outputs):
+            values = f"s{chip.instruction or '-'} ", level(output, "z")
+            found |= {number + which: values[which] for which in self.asked.extras()}
+            number += len(EXTRAS)
+        return found
 
     def begin(self, statement: int) -> None:
         """Write the time at which a statement begins, and its number."""
@@ -123,9 +161,18 @@ class Drawing:
             return
         self.tck = tck
         before, self.values = self.values, self.shown()
+        told, self.more = self.more, self.shown_besides()
         self.pieces.append(f"#{self.time}\n")
         self.pieces += [f"{value}{sign(number)}\n" for number, (value, old) in enumerate(zip(self.values, before))
                         if value != old]
+        self.pieces += [f"{value}{sign(number)}\n" for number, value in self.more.items()
+                        if value != told[number] or self.is_renamed(number, before)]
+
+    def is_renamed(self, number: int, before: list[str]) -> bool:
+        """Whether a variable is the name of an instruction whose bits have changed: a name comes with its bits."""
+        place, which = divmod(number - self.first_extra, len(EXTRAS))
+        bits = len(LINES) + 1 + 3 * place + 2
+        return which == 0 and self.values[bits] != before[bits]
 
     def go_on(self, time: int) -> None:
         self.time = min(self.time + time, LATEST)
@@ -172,14 +219,14 @@ def without_strings(text: str) -> str:
     return "".join(f"{line}\n" for line in text.splitlines() if not line.startswith(("s", "$var string ")))
 
 
-def waves(board: Board, text: bytes, to_the_end: bool = False, noted: bool = False) -> str:
+def waves(board: Board, text: bytes, to_the_end: bool = False, asked: Asked = Asked()) -> str:
     """The file of an accepted text, drawn up to and with the first statement that fails."""
-    drawing, place, period_at = Drawing(board, noted), "RESET", periods(text)
+    drawing, place, period_at = Drawing(board, asked), "RESET", periods(text)
     for byte in OPENING:
         drawing.byte(byte, USUAL_PERIOD)
     for step in accept(text).steps:
         drawing.begin(step.number)
-        if noted and isinstance(step, ScanStep):
+        if asked.noted and isinstance(step, ScanStep):
             answers = scan(drawing, step, place, period_at[step.number], to_the_end)
         else:
             answers = [drawing.byte(byte, period_at[step.number]) for byte in step_bytes(place, step)]

@@ -1,7 +1,7 @@
 -- What the words of a command line ask for. What a command with these arguments takes of its words is clap's own
 -- specification.
 use Rattle.std.specs.Prelude.{ℕ, ◌-◌, ◌^◌, Bool, true, false, List, [], ◌∷◌, Option, Some, None, codes, bytes_eq}
-use Rattle.std.specs.Prelude.{if◌then◌else◌, option_and_then, option_map, unwrap_or}
+use Rattle.std.specs.Prelude.{not, ◌&&◌, if◌then◌else◌, option_and_then, option_map, unwrap_or}
 use Rattle.std.specs.Option.{option_map_or}
 use Rattle.std.specs.Str.Parse.{digits_value, without_leading_plus}
 use Rattle.clap.specs.Simple.{new_shape, on_top}
@@ -41,14 +41,23 @@ vcd = record (new_rule (codes "vcd")) { long = Some (codes "vcd"); action = Some
 abbrev pub vcd_fails : Rule
 vcd_fails = record (new_rule (codes "vcd-fails")) { long = Some (codes "vcd-fails"); action = Some SetTrue }
 
+-- `[--vcd-names]`
+abbrev pub vcd_names : Rule
+vcd_names = record (new_rule (codes "vcd-names")) { long = Some (codes "vcd-names"); action = Some SetTrue }
+
+-- `[--vcd-tdo]`
+abbrev pub vcd_tdo : Rule
+vcd_tdo = record (new_rule (codes "vcd-tdo")) { long = Some (codes "vcd-tdo"); action = Some SetTrue }
+
 -- `[--vcd-plain]`
 abbrev pub vcd_plain : Rule
 vcd_plain = record (new_rule (codes "vcd-plain")) { long = Some (codes "vcd-plain"); action = Some SetTrue }
 
--- `play [FILE] [--board BOARD] [--bytes] [--all] [--explain] [--vcd FILE] [--vcd-fails] [--vcd-plain]`
+-- `play [FILE] [--board BOARD] [--bytes] [--all] [--explain] [--vcd FILE] [--vcd-fails] [--vcd-names] [--vcd-tdo]
+-- [--vcd-plain]`
 abbrev pub play : Shape
 play = record (new_shape (codes "play")) {
-  rules = svf ∷ board ∷ bytes ∷ all ∷ explain ∷ vcd ∷ vcd_fails ∷ vcd_plain ∷ [];
+  rules = svf ∷ board ∷ bytes ∷ all ∷ explain ∷ vcd ∷ vcd_fails ∷ vcd_names ∷ vcd_tdo ∷ vcd_plain ∷ [];
 }
 
 -- `check [FILE] [--board BOARD] [--explain]`
@@ -164,11 +173,13 @@ pub record Host : Type 0 where
   pub port : ℕ
   pub timeout : Option ℕ
 
--- the file that waves are drawn into; whether they show which bits are wanted and which of them fail, and whether they
--- are without strings
+-- the file that waves are drawn into; whether they show which bits are wanted and which of them fail, the names of
+-- instructions, and each device's TDO; and whether they are without strings
 pub record Drawn : Type 0 where
   pub file : Text
   pub fails : Bool
+  pub names : Bool
+  pub tdos : Bool
   pub plain : Bool
 
 -- what is done with a text or a board: whether the bytes are told, whether all failures are, and whether it is told why
@@ -231,6 +242,10 @@ serving_of rows = record {
 abbrev pub server_of : List Row → Host
 server_of rows = record { host = host_of rows; port = port_of rows; timeout = timeout_of rows }
 
+-- Names are strings: waves without strings have none.
+abbrev pub has_names : List Row → Bool
+has_names rows = is_given (codes "vcd-names") rows && not (is_given (codes "vcd-plain") rows)
+
 -- Without the file the flags of waves mean nothing.
 abbrev pub waves_of : List Row → Option Drawn
 waves_of rows =
@@ -238,6 +253,8 @@ waves_of rows =
     (λ name. record {
       file = name;
       fails = is_given (codes "vcd-fails") rows;
+      names = has_names rows;
+      tdos = is_given (codes "vcd-tdo") rows;
       plain = is_given (codes "vcd-plain") rows;
     })
     (first_of (codes "vcd") rows)

@@ -24,7 +24,7 @@ abbrev pub board : Text
 board = codes "b.toml"
 
 abbrev pub waves : (fails plain : Bool) → Drawn
-waves fails plain = record { file = codes "a.vcd"; fails = fails; plain = plain }
+waves fails plain = record { file = codes "a.vcd"; fails = fails; names = false; tdos = false; plain = plain }
 
 pub record UsageRows : Type 0 where
   pub no_words : Asks [] (request None None (plays true false false None))
@@ -61,6 +61,18 @@ pub record UsageRows : Type 0 where
   pub play_vcd_both : Asks
       (codes "play" ∷ codes "--vcd-plain" ∷ codes "--all" ∷ codes "--vcd=a.vcd" ∷ codes "--vcd-fails" ∷ [])
       (request None None (plays false true false (Some (waves true true))))
+  pub play_vcd_names : Asks (codes "play" ∷ codes "--vcd-names" ∷ file ∷ codes "--vcd" ∷ codes "a.vcd" ∷ [])
+      (request (Some file) None (plays false false false (Some (record (waves false false) { names = true }))))
+  pub play_vcd_tdo : Asks (codes "play" ∷ file ∷ codes "--vcd=a.vcd" ∷ codes "--vcd-tdo" ∷ [])
+      (request (Some file) None (plays false false false (Some (record (waves false false) { tdos = true }))))
+  pub play_vcd_every_flag : Asks
+      (codes "play" ∷ codes "--vcd-tdo" ∷ codes "--vcd-plain" ∷ codes "--vcd-names" ∷ codes "--vcd=a.vcd"
+      ∷ codes "--vcd-fails" ∷ [])
+      (request None None (plays false false false (Some (record (waves true true) { tdos = true }))))
+  pub names_of_no_waves : Asks (codes "play" ∷ codes "--vcd-names" ∷ codes "--vcd-tdo" ∷ [])
+      (request None None (plays false false false None))
+  pub check_draws_no_names : IsRefused (codes "check" ∷ codes "--vcd-names" ∷ []) (kind.UnknownArgument ∷ [])
+  pub loop_draws_no_tdo : IsRefused (codes "loop" ∷ codes "--vcd-tdo" ∷ []) (kind.UnknownArgument ∷ [])
   pub fails_of_no_waves : Asks (codes "play" ∷ codes "--vcd-fails" ∷ codes "--vcd-plain" ∷ [])
       (request None None (plays false false false None))
   pub check_draws_no_fails : IsRefused (codes "check" ∷ codes "--vcd-fails" ∷ []) (kind.UnknownArgument ∷ [])

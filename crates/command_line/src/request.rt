@@ -84,6 +84,10 @@ pub struct Waves<'a> {
     pub file: &'a str,
     /// Whether they show which bits are wanted, and which of them fail.
     pub fails: bool,
+    /// Whether they show the names of instructions, which those without strings do not.
+    pub names: bool,
+    /// Whether they show the TDO of each device.
+    pub tdos: bool,
     /// Whether they are without strings.
     pub plain: bool,
 }
@@ -126,7 +130,8 @@ pub struct Request<'a> {
 /// Reads the words of a command line, of which the first is the program's name. Without any more it is `play --bytes`.
 ///
 /// The command line is one of
-/// - `play [FILE] [--board BOARD] [--bytes] [--all] [--explain] [--vcd FILE] [--vcd-fails] [--vcd-plain]`,
+/// - `play [FILE] [--board BOARD] [--bytes] [--all] [--explain] [--vcd FILE] [--vcd-fails] [--vcd-names] [--vcd-tdo]
+///   [--vcd-plain]`,
 /// - `check [FILE] [--board BOARD] [--explain]`,
 /// - `loop [FILE] [--board BOARD] [--all] [--explain]`,
 /// - `serve --board BOARD --port PORT [--at-most BYTES] [--connections COUNT] [--timeout SECONDS] [--explain]`,
@@ -219,10 +224,19 @@ fn waves_of<'a>(found: &ArgMatches<'a>) -> Option<Waves<'a>>
         Some(file) => Some(Waves {
             file,
             fails: is_given(found, "vcd-fails"),
+            names: has_names(found),
+            tdos: is_given(found, "vcd-tdo"),
             plain: is_given(found, "vcd-plain"),
         }),
         None => None,
     }
+}
+
+/// Whether waves show the names of instructions: those without strings have none.
+fn has_names(found: &ArgMatches<'_>) -> bool
+    ensures { result ≡ spec.has_names (rows_of (found_of found.now)) }
+{
+    is_given(found, "vcd-names") && !is_given(found, "vcd-plain")
 }
 
 /// The file of the log, where it is named.
@@ -351,6 +365,8 @@ fn play_command<'a>(alloc: Global) -> Result<Command<'a>, AllocError>
     .arg(reasons_arg(alloc))?
     .arg(vcd_arg(alloc))?
     .arg(vcd_fails_arg(alloc))?
+    .arg(vcd_names_arg(alloc))?
+    .arg(vcd_tdo_arg(alloc))?
     .arg(vcd_plain_arg(alloc))
 }
 
@@ -555,6 +571,26 @@ fn vcd_fails_arg<'a>(alloc: Global) -> Arg<'a>
         .long("vcd-fails")
         .action(ArgAction::SetTrue)
         .help("The waves also show which bits are wanted, and which of them fail")
+}
+
+fn vcd_names_arg<'a>(alloc: Global) -> Arg<'a>
+    ensures rule { rule_of result ≡ spec.vcd_names }
+    ensures local { result.global ≡ false }
+{
+    Arg::new(alloc, "vcd-names")
+        .long("vcd-names")
+        .action(ArgAction::SetTrue)
+        .help("The waves also show the names of instructions, unless they are without strings")
+}
+
+fn vcd_tdo_arg<'a>(alloc: Global) -> Arg<'a>
+    ensures rule { rule_of result ≡ spec.vcd_tdo }
+    ensures local { result.global ≡ false }
+{
+    Arg::new(alloc, "vcd-tdo")
+        .long("vcd-tdo")
+        .action(ArgAction::SetTrue)
+        .help("The waves also show the TDO of each device")
 }
 
 fn vcd_plain_arg<'a>(alloc: Global) -> Arg<'a>

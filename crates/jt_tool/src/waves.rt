@@ -3,7 +3,7 @@
 use byte_streams::{Counted, Plain};
 use command_line::{InputFault, Request, Waves, head_of, is_in_use};
 use play_explained::plain::Program;
-use play_waves::{Stage, Undrawn, WithoutStrings, begins_as_waves, write_waves};
+use play_waves::{Extras, Stage, Undrawn, WithoutStrings, begins_as_waves, write_waves};
 use std::alloc::Global;
 use std::fs::File;
 use std::io::{BufWriter, Write};
@@ -38,13 +38,17 @@ pub(crate) fn draw_waves(
     let Ok(mut writer) = BufWriter::new(alloc, file) else {
         return Err(Undrawn::NoMemory);
     };
+    let extras = Extras {
+        names: waves.names,
+        tdos: waves.tdos,
+    };
     let written = if waves.plain {
         let mut lines = WithoutStrings::new(alloc, &mut writer);
         let mut out = Counted::new(Plain(&mut lines));
-        write_waves(program, stage, waves.fails, &mut out).is_ok()
+        write_waves(program, stage, waves.fails, extras, &mut out).is_ok()
     } else {
         let mut out = Counted::new(Plain(&mut writer));
-        write_waves(program, stage, waves.fails, &mut out).is_ok()
+        write_waves(program, stage, waves.fails, extras, &mut out).is_ok()
     };
     if written && writer.flush().is_ok() {
         Ok(())

@@ -17,7 +17,9 @@ use Rattle.board_model.specs.Nets.{told}
 use Rattle.board_model.specs.Chain.{ChipState, fall, is_held, members, rise, rise_all, tdi_before}
 use Rattle.board_model.proofs.Resets.{reset-twice}
 use Rattle.play_drawing.specs.Drawing.{after_drawing, after_mark, between, draw, drawn_rests, is_drawn_so, is_resting, lasting, later, latest, mark, shown, taken}
-use Rattle.wave_files.specs.Changes.{stamped_changes}
+use Rattle.wave_files.specs.declared.extras.Extras.{Extras}
+use Rattle.wave_files.specs.Changes.{board_changes, line_changes, stamp}
+use Rattle.wave_files.specs.Extras.{all_extra_changes}
 use Rattle.play_drawing.specs.Holding.{is_held_by, stays}
 use Rattle.play_drawing.specs.Pens.{Pen}
 use Rattle.play_drawing.proofs.Cycles.{cycle-drawn, cycle-pen, cycles_of, pen-both, both}
@@ -93,9 +95,10 @@ halves period = omega arith
 
 -- ---- a pen within a stretch
 
-abbrev pub pen : Option Bool → Option Bool → Option Bool → ℕ → ℕ → Bool → Bool → List Net → List ChipState → Pen
-pen k a b t r tck trst nets cs = record {
+abbrev pub pen : Extras → Option Bool → Option Bool → Option Bool → ℕ → ℕ → Bool → Bool → List Net → List ChipState → Pen
+pen x k a b t r tck trst nets cs = record {
   marks = record { tck = k; tms = a; tdi = b; time = t; rested = r };
+  extras = x;
   board = record { tck = tck; trst = trst; nets = nets; chips = cs };
 }
 
@@ -103,9 +106,9 @@ pub drawn-same : (x : Bool) → is_drawn_so (Some x) x ≡ true
 drawn-same true = refl
 drawn-same false = refl
 
-module _ (period : ℕ) (c : Cycle) (trst : Bool) (nets : List Net) where
+module _ (period : ℕ) (c : Cycle) (x : Extras) (trst : Bool) (nets : List Net) where
   abbrev still : ℕ → Bool → List ChipState → Pen
-  still t tck cs = pen None (Some c.tms) (Some c.tdi) t (suc drawn_rests) tck trst nets cs
+  still t tck cs = pen x None (Some c.tms) (Some c.tdi) t (suc drawn_rests) tck trst nets cs
 
   abbrev low : Message
   low = Write false c.tms c.tdi
@@ -114,19 +117,19 @@ module _ (period : ℕ) (c : Cycle) (trst : Bool) (nets : List Net) where
   high = Write true c.tms c.tdi
 
   -- the pen behind a message that is, or is not, one of a rest
-  abbrev behind : (r t : ℕ) (x y z tck : Bool) → List ChipState → Pen
-  behind r t x y z tck cs =
-      let n = if x && (y && z) then min (suc r) (suc drawn_rests) else 0 in
-      pen (if nat_le n drawn_rests then Some tck else None) (Some c.tms) (Some c.tdi) t n tck trst nets cs
+  abbrev behind : (r t : ℕ) (u y z tck : Bool) → List ChipState → Pen
+  behind r t u y z tck cs =
+      let n = if u && (y && z) then min (suc r) (suc drawn_rests) else 0 in
+      pen x (if nat_le n drawn_rests then Some tck else None) (Some c.tms) (Some c.tdi) t n tck trst nets cs
 
   counted : (r t : ℕ) (tck : Bool) (cs : List ChipState) → drawn_rests < r → behind r t true true true tck cs ≡ still t tck cs
   counted r t tck cs over =
       let most : min (suc r) (suc drawn_rests) ≡ suc drawn_rests = omega (arith, over) in
-      ap (λ (n : ℕ). pen (if nat_le n drawn_rests then Some tck else None) (Some c.tms) (Some c.tdi) t n tck trst nets cs) most
+      ap (λ (n : ℕ). pen x (if nat_le n drawn_rests then Some tck else None) (Some c.tms) (Some c.tdi) t n tck trst nets cs) most
 
   falls : (k a b : Option Bool) (t r : ℕ) (cs : List ChipState) → drawn_rests < r → is_drawn_so a c.tms ≡ true → is_drawn_so b c.tdi ≡ true
       → list_all (stays trst c.tms) cs ≡ true
-      → after_mark period low (pen k a b t r true trst nets cs) ≡ still (later t (period - period / 2)) false (map fall cs)
+      → after_mark period low (pen x k a b t r true trst nets cs) ≡ still (later t (period - period / 2)) false (map fall cs)
   falls k a b t r cs over ea eb stay =
       (λ i. behind r (later t (period - period / 2)) (ea i) (eb i) (rest_there trst c.tms (map fall cs) (stay_fallen trst c.tms cs stay) i) false (map fall cs))
       ∙ counted r (later t (period - period / 2)) false (map fall cs) over
@@ -142,7 +145,10 @@ module _ (period : ℕ) (c : Cycle) (trst : Bool) (nets : List Net) where
 
   nothing_between : (p q : Pen) → p.marks.tck ≡ None → q.marks.tck ≡ None → between p q ≡ []
   nothing_between p q ep eq =
-      λ i. if is_none (ep i) && is_none (eq i) then [] else stamped_changes p.marks.time (shown p) (shown q) p.board.nets p.board.chips q.board.chips
+      λ i. if is_none (ep i) && is_none (eq i) then [] else stamp p.marks.time
+      ++ (line_changes (shown p) (shown q)
+      ++ (board_changes p.board.nets p.board.chips q.board.chips
+      ++ all_extra_changes p.extras p.board.nets p.board.chips q.board.chips))
 
   -- one cycle within a stretch, of devices that fell
   module _ (cs : List ChipState) (stay : list_all (stays trst c.tms) cs ≡ true) where
@@ -202,7 +208,7 @@ module _ (period : ℕ) (c : Cycle) (trst : Bool) (nets : List Net) where
   module _ (k a b : Option Bool) (t r : ℕ) (cs : List ChipState) (over : drawn_rests < r) (ea : is_drawn_so a c.tms ≡ true) (eb : is_drawn_so b c.tdi ≡ true)
       (stay : list_all (stays trst c.tms) cs ≡ true) where
     abbrev start : Pen
-    start = pen k a b t r true trst nets cs
+    start = pen x k a b t r true trst nets cs
 
     enters : after_drawing period (cycle_messages c) start ≡ still (later t period) true (map fall cs)
     enters =
@@ -243,16 +249,16 @@ pub after_held : (period : ℕ) (c : Cycle) (p : Pen) (n : ℕ) → is_held_by c
     → after_drawing period (cycles_of c n) (after_drawing period (cycle_messages c) p) ≡ lasting (n * period) (after_drawing period (cycle_messages c) p)
 after_held period c p n h =
     let k = held_so c p h in
-    subst (λ (tck : Bool). let q : Pen = pen p.marks.tck p.marks.tms p.marks.tdi p.marks.time p.marks.rested tck p.board.trst p.board.nets p.board.chips in
+    subst (λ (tck : Bool). let q : Pen = pen p.extras p.marks.tck p.marks.tms p.marks.tdi p.marks.time p.marks.rested tck p.board.trst p.board.nets p.board.chips in
     after_drawing period (cycles_of c n) (after_drawing period (cycle_messages c) q) ≡ lasting (n * period) (after_drawing period (cycle_messages c) q))
     (sym k.tck)
-    (held-pen period c p.board.trst p.board.nets p.marks.tck p.marks.tms p.marks.tdi p.marks.time p.marks.rested p.board.chips k.over k.tms k.tdi k.stay n)
+    (held-pen period c p.extras p.board.trst p.board.nets p.marks.tck p.marks.tms p.marks.tdi p.marks.time p.marks.rested p.board.chips k.over k.tms k.tdi k.stay n)
 
 pub drawn_held : (period : ℕ) (c : Cycle) (p : Pen) (n : ℕ) → is_held_by c p ≡ true
     → draw period (cycles_of c n) (after_drawing period (cycle_messages c) p) ≡ []
 drawn_held period c p n h =
     let k = held_so c p h in
-    subst (λ (tck : Bool). let q : Pen = pen p.marks.tck p.marks.tms p.marks.tdi p.marks.time p.marks.rested tck p.board.trst p.board.nets p.board.chips in
+    subst (λ (tck : Bool). let q : Pen = pen p.extras p.marks.tck p.marks.tms p.marks.tdi p.marks.time p.marks.rested tck p.board.trst p.board.nets p.board.chips in
     draw period (cycles_of c n) (after_drawing period (cycle_messages c) q) ≡ [])
     (sym k.tck)
-    (held-drawn period c p.board.trst p.board.nets p.marks.tck p.marks.tms p.marks.tdi p.marks.time p.marks.rested p.board.chips k.over k.tms k.tdi k.stay n)
+    (held-drawn period c p.extras p.board.trst p.board.nets p.marks.tck p.marks.tms p.marks.tdi p.marks.time p.marks.rested p.board.chips k.over k.tms k.tdi k.stay n)

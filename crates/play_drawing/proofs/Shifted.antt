@@ -33,6 +33,7 @@ use Rattle.jt_board.specs.Shifting.{shift_cycles, shifts}
 use Rattle.jt_board.proofs.ShiftRuns.{shift_of}
 use Rattle.play_drawing.specs.declared.marks.Marks.{Marks}
 use Rattle.play_drawing.specs.Drawing.{after_drawing, after_mark, draw, drawn_rests, is_drawn_so, is_resting, lasting, later, mark, shown, taken, tck_drawn}
+use Rattle.wave_files.specs.declared.extras.Extras.{Extras}
 use Rattle.wave_files.specs.Changes.{line_changes, stamp}
 use Rattle.play_drawing.specs.Pens.{Pen}
 use Rattle.play_drawing.specs.Quiet.{keeps_drives}
@@ -126,9 +127,10 @@ given (c ∷ cs) tdo e = ap (λ (o : Option Bool). unwrap_or o true) e
 abbrev board : Bool → List Net → List ChipState → BoardState
 board tck nets cs = record { tck = tck; trst = false; nets = nets; chips = cs }
 
-abbrev pub pen_at : (tck tdi : Bool) → (time : ℕ) → List Net → List ChipState → Pen
-pen_at tck tdi time nets cs = record {
+abbrev pub pen_at : Extras → (tck tdi : Bool) → (time : ℕ) → List Net → List ChipState → Pen
+pen_at x tck tdi time nets cs = record {
   marks = record { tck = Some tck; tms = Some false; tdi = Some tdi; time = time; rested = 0 };
+  extras = x;
   board = board tck nets cs;
 }
 
@@ -137,7 +139,7 @@ not_rested r true true c e = ap (λ (x : Bool). if x then min (suc r) (suc drawn
 not_rested r true false c e = refl
 not_rested r false b c e = refl
 
-module _ (nets : List Net) where
+module _ (x : Extras) (alone : x.tdos ≡ false) (nets : List Net) where
   abbrev pub risen : Bool → List ChipState → List ChipState
   risen tdi cs = rise_all false false tdi (told nets (members cs)) 0 cs
 
@@ -145,6 +147,7 @@ module _ (nets : List Net) where
   abbrev behind : (tck tdi : Bool) → (time rested : ℕ) → List ChipState → Pen
   behind tck tdi time rested cs = record {
     marks = record { tck = tck_drawn rested tck; tms = Some false; tdi = Some tdi; time = time; rested = rested };
+    extras = x;
     board = board tck nets cs;
   }
 
@@ -162,7 +165,7 @@ module _ (nets : List Net) where
 
   module _ (column : Column) where
     taken_high : (tdi : Bool) (time : ℕ) (cs : List ChipState) → AllIn column cs → 0 < length cs
-        → taken (Write true false tdi) (pen_at false tdi time nets cs) ≡ pen_at true tdi time nets (risen tdi cs)
+        → taken (Write true false tdi) (pen_at x false tdi time nets cs) ≡ pen_at x true tdi time nets (risen tdi cs)
     taken_high tdi time cs all some =
         let none : is_resting (risen tdi cs) ≡ false =
         no_rest column (risen tdi cs) (all_risen column tdi (told nets (members cs)) 0 cs all) (omega (arith, some, count_risen tdi cs)) in
@@ -170,7 +173,7 @@ module _ (nets : List Net) where
         (not_rested 0 (is_drawn_so (Some false) false) (is_drawn_so (Some tdi) tdi) (is_resting (risen tdi cs)) none)
 
     taken_low : (tdi next_tdi : Bool) (time : ℕ) (cs : List ChipState) → AllIn column cs → 0 < length cs
-        → taken (Write false false next_tdi) (pen_at true tdi time nets cs) ≡ pen_at false next_tdi time nets (map fall cs)
+        → taken (Write false false next_tdi) (pen_at x true tdi time nets cs) ≡ pen_at x false next_tdi time nets (map fall cs)
     taken_low tdi next_tdi time cs all some =
         let none : is_resting (map fall cs) ≡ false =
         no_rest column (map fall cs) (all_fallen column cs all) (omega (arith, some, count_fallen cs)) in
@@ -179,24 +182,24 @@ module _ (nets : List Net) where
 
     -- what is written
     told_high : (tdi : Bool) (time : ℕ) (cs : List ChipState) → AllIn column cs → 0 < length cs
-        → mark (Write true false tdi) (pen_at false tdi time nets cs) ≡ high_text time
+        → mark (Write true false tdi) (pen_at x false tdi time nets cs) ≡ high_text time
     told_high tdi time cs all some =
-        let p = pen_at false tdi time nets cs in
+        let p = pen_at x false tdi time nets cs in
         let m : Message = Write true false tdi in
         let tdo : first_tdo (risen tdi cs) ≡ first_tdo cs = tdo_risen tdi (told nets (members cs)) 0 cs in
         let was = wire undriven (first_tdo cs) in
-        quiet_lines m p refl refl (states_risen column tdi (told nets (members cs)) 0 cs all) refl
+        quiet_lines m p alone refl refl (states_risen column tdi (told nets (members cs)) 0 cs all) refl
         ∙ ap (λ (q : Pen). stamp time ++ line_changes (shown p) (shown q)) (taken_high tdi time cs all some)
         ∙ ap (λ (o : Option Bool). stamp time ++ (byte_line 0 (digit true) ++ (byte_change 2 (digit tdi) (digit tdi) ++ (byte_change 3 was (wire undriven o) ++ [])))) tdo
         ∙ ap₂ (λ (a b : List ℕ). stamp time ++ (byte_line 0 (digit true) ++ (a ++ (b ++ [])))) (unchanged 2 (digit tdi)) (unchanged 3 was)
 
     told_low : (tdi next_tdi tdo next_tdo : Bool) (time : ℕ) (cs : List ChipState) → AllIn column cs → 0 < length cs
         → first_tdo cs ≡ Some tdo → first_tdo (map fall cs) ≡ Some next_tdo
-        → mark (Write false false next_tdi) (pen_at true tdi time nets cs) ≡ low_text time tdi next_tdi tdo next_tdo
+        → mark (Write false false next_tdi) (pen_at x true tdi time nets cs) ≡ low_text time tdi next_tdi tdo next_tdo
     told_low tdi next_tdi tdo next_tdo time cs all some shows shows_next =
-        let p = pen_at true tdi time nets cs in
+        let p = pen_at x true tdi time nets cs in
         let m : Message = Write false false next_tdi in
-        quiet_lines m p refl refl (states_fallen cs) (all_keep column cs all)
+        quiet_lines m p alone refl refl (states_fallen cs) (all_keep column cs all)
         ∙ ap (λ (q : Pen). stamp time ++ line_changes (shown p) (shown q)) (taken_low tdi next_tdi time cs all some)
         ∙ (λ i. stamp time ++ (byte_line 0 (digit false) ++ (byte_change 2 (digit tdi) (digit next_tdi)
         ++ (byte_change 3 (wire undriven (shows i)) (wire undriven (shows_next i)) ++ []))))
@@ -205,12 +208,12 @@ module _ (nets : List Net) where
 
     module _ (period : ℕ) where
       goes_high : (tdi : Bool) (time : ℕ) (cs : List ChipState) → AllIn column cs → 0 < length cs
-          → after_mark period (Write true false tdi) (pen_at false tdi time nets cs) ≡ pen_at true tdi (low_time period time) nets (risen tdi cs)
+          → after_mark period (Write true false tdi) (pen_at x false tdi time nets cs) ≡ pen_at x true tdi (low_time period time) nets (risen tdi cs)
       goes_high tdi time cs all some = ap (lasting (period / 2)) (taken_high tdi time cs all some)
 
       goes_low : (tdi next_tdi : Bool) (time : ℕ) (cs : List ChipState) → AllIn column cs → 0 < length cs
-          → after_mark period (Write false false next_tdi) (pen_at true tdi time nets cs)
-          ≡ pen_at false next_tdi (later time (period - period / 2)) nets (map fall cs)
+          → after_mark period (Write false false next_tdi) (pen_at x true tdi time nets cs)
+          ≡ pen_at x false next_tdi (later time (period - period / 2)) nets (map fall cs)
       goes_low tdi next_tdi time cs all some = ap (lasting (period - period / 2)) (taken_low tdi next_tdi time cs all some)
 
       -- ---- many cycles
@@ -232,16 +235,18 @@ module _ (nets : List Net) where
 
         pub record Drawn (n j time : ℕ) (cs : List ChipState) (end : BoardState) : Type 0 where
           pub first : first_tdo cs ≡ Some (tdo j)
-          pub text : draw period (edges tdi j n) (pen_at false (tdi j) time nets cs) ≡ edges_text period time tdi tdo j n
-          pub pen : after_drawing period (edges tdi j n) (pen_at false (tdi j) time nets cs)
+          pub text : draw period (edges tdi j n) (pen_at x false (tdi j) time nets cs) ≡ edges_text period time tdi tdo j n
+          pub pen : after_drawing period (edges tdi j n) (pen_at x false (tdi j) time nets cs)
               ≡ record {
                 marks = record { tck = Some false; tms = Some false; tdi = Some (tdi (j + n)); time = time_behind time n; rested = 0 };
+                extras = x;
                 board = end;
               }
 
         abbrev pen_behind : (j n time : ℕ) → BoardState → Pen
         pen_behind j n time end = record {
           marks = record { tck = Some false; tms = Some false; tdi = Some (tdi (j + n)); time = time_behind time n; rested = 0 };
+          extras = x;
           board = end;
         }
 
@@ -260,6 +265,7 @@ module _ (nets : List Net) where
               text = refl;
               pen = (λ i. record {
                 marks = record { tck = Some false; tms = Some false; tdi = Some (tdi (sym none i)); time = time; rested = 0 };
+                extras = x;
                 board = stays i;
               });
             }
@@ -283,9 +289,9 @@ module _ (nets : List Net) where
             let first : first_tdo cs ≡ Some (tdo j) =
             driven.1 ∙ ap (λ (b : Bool). Some b) (sym (given cs driven.0 driven.1) ∙ answer ∙ sym (same j (omega arith) here)) in
             let first_up : first_tdo up ≡ Some (tdo j) = tdo_risen t about 0 cs ∙ first in
-            let p = pen_at false t time nets cs in
-            let q = pen_at true t (low_time period time) nets up in
-            let r = pen_at false (tdi (j + 1)) (next_time period time) nets down in
+            let p = pen_at x false t time nets cs in
+            let q = pen_at x true t (low_time period time) nets up in
+            let r = pen_at x false (tdi (j + 1)) (next_time period time) nets down in
             let high : Message = Write true false t in
             let low : Message = Write false false (tdi (j + 1)) in
             let ms = edges tdi (j + 1) n in
@@ -303,6 +309,7 @@ module _ (nets : List Net) where
                   ∙ rest.pen
                   ∙ ap (λ (k : ℕ). record {
                     marks = record { tck = Some false; tms = Some false; tdi = Some (tdi k); time = time_behind (next_time period time) n; rested = 0 };
+                    extras = x;
                     board = end;
                   }) far;
             }
@@ -356,6 +363,7 @@ pub record DrawnWord (period tdi count out : ℕ) (last : Bool) (p : Pen) (end :
   pub pen : after_drawing period (edges (has_bit tdi) 0 count) p
       ≡ record {
         marks = record { tck = Some false; tms = Some false; tdi = Some (has_bit tdi count); time = later p.marks.time (count * period); rested = 0 };
+        extras = p.extras;
         board = end;
       }
 
@@ -369,9 +377,10 @@ behind_word out count last =
     let no : nat_lt count count ≡ false = grind (arith, nat_tests) in
     ap (λ (b : Bool). if b then has_bit out count else last) no
 
-time_so : (period time count : ℕ) (nets : List Net) (column : Column) → 0 < count → time_behind nets column period time count ≡ later time (count * period)
-time_so period time zero nets column some = absurd (omega (arith, some))
-time_so period time (suc n) nets column some = time_of nets column period time n
+time_so : (x : Extras) (alone : x.tdos ≡ false) (period time count : ℕ) (nets : List Net) (column : Column) → 0 < count
+    → time_behind x alone nets column period time count ≡ later time (count * period)
+time_so x alone period time zero nets column some = absurd (omega (arith, some))
+time_so x alone period time (suc n) nets column some = time_of x alone nets column period time n
 
 pub drawn_word : (period tdi count out : ℕ) (last : Bool) (p : Pen) (end : BoardState) → IsShifting (has_bit tdi 0) p → IsSoundBoard p.board
     → 0 < length p.board.chips → 0 < count
@@ -382,13 +391,13 @@ drawn_word period tdi count out last p end shifting sound there some heard is =
     let shift = shift_of p.board shifting.board in
     let nets = p.board.nets in
     let cs = p.board.chips in
-    let at : p ≡ pen_at false (has_bit tdi 0) p.marks.time nets cs =
-    (λ i. record { marks = shifting.lines i; board = record { tck = shift.tck i; trst = shift.trst i; nets = nets; chips = cs } }) in
+    let at : p ≡ pen_at p.extras false (has_bit tdi 0) p.marks.time nets cs =
+    (λ i. record { marks = shifting.lines i; extras = p.extras; board = record { tck = shift.tck i; trst = shift.trst i; nets = nets; chips = cs } }) in
     let here : p.board ≡ board false nets cs = (λ i. record { tck = shift.tck i; trst = shift.trst i; nets = nets; chips = cs }) in
     let so = ap (hear (closed_messages (shift_cycles (map (has_bit tdi) (range_with_len 0 count))))) (sym here) ∙ heard in
     ⊎_elim (λ dr. by Dr at so dr) (λ ir. by Ir at so ir) (either (all_shift Dr cs) (all_shift Ir cs) shift.one)
   where
-    by : (column : Column) → p ≡ pen_at false (has_bit tdi 0) p.marks.time p.board.nets p.board.chips
+    by : (column : Column) → p ≡ pen_at p.extras false (has_bit tdi 0) p.marks.time p.board.nets p.board.chips
         → hear (closed_messages (shift_cycles (map (has_bit tdi) (range_with_len 0 count)))) (board false p.board.nets p.board.chips)
         ≡ record { answers = map (has_bit out) (range_with_len 0 count); board = end }
         → all_shift column p.board.chips ≡ true → DrawnWord period tdi count out last p end
@@ -396,7 +405,7 @@ drawn_word period tdi count out last p end shifting sound there some heard is =
         let nets = p.board.nets in
         let cs = p.board.chips in
         let all : 0 + count ≡ count = omega arith in
-        let it = drawn nets column period (has_bit tdi) (has_bit out) (tdo_bit out count last) count 0 p.marks.time cs end
+        let it = drawn p.extras shifting.alone nets column period (has_bit tdi) (has_bit out) (tdo_bit out count last) count 0 p.marks.time cs end
         (all_in column cs h) sound there (all_driven column cs h there) so
         (λ k least most. within_word out count last k (omega (arith, most))) (ap (tdo_bit out count last) all ∙ behind_word out count last ∙ is) in
         record {
@@ -407,9 +416,10 @@ drawn_word period tdi count out last p end shifting sound there some heard is =
                   tck = Some false;
                   tms = Some false;
                   tdi = Some (has_bit tdi (all i));
-                  time = time_so period p.marks.time count nets column some i;
+                  time = time_so p.extras shifting.alone period p.marks.time count nets column some i;
                   rested = 0;
                 };
+                extras = p.extras;
                 board = end;
               });
         }
@@ -430,10 +440,10 @@ none_left period time tdi tdo j count over =
 
 -- the lines behind a word
 pub shifted_lines : (m : Marks) (p : Pen) (tdi next_tdi : Bool) (time : ℕ) (end : BoardState) → m ≡ p.marks → IsShifting tdi p
-    → pen (record m { tdi = Some next_tdi; time = time }) end
-    ≡ pen (record { tck = Some false; tms = Some false; tdi = Some next_tdi; time = time; rested = 0 }) end
+    → pen p.extras (record m { tdi = Some next_tdi; time = time }) end
+    ≡ pen p.extras (record { tck = Some false; tms = Some false; tdi = Some next_tdi; time = time; rested = 0 }) end
 shifted_lines m p tdi next_tdi time end same shifting =
-    ap (λ (k : Marks). pen (record k { tdi = Some next_tdi; time = time }) end) (same ∙ shifting.lines)
+    ap (λ (k : Marks). pen p.extras (record k { tdi = Some next_tdi; time = time }) end) (same ∙ shifting.lines)
 
 pub no_edges : (tdi : ℕ → Bool) (count : ℕ) → count ≡ 0 → edges tdi 0 count ≡ []
 no_edges tdi count none = ap (edges tdi 0) none
@@ -505,8 +515,8 @@ shifts_low column nets cs all sound =
     (λ e. subst (λ (k : Column). all_shift k (map fall cs) ≡ true) e (fallen_shifts column cs all sound))
 
 -- TCK low of a cycle that shifts
-pub begins_shift : (period : ℕ) (tdi : Bool) (p : Pen) → StandsInShift p.board → IsShifting tdi (after_mark period (Write false false tdi) p)
-begins_shift period tdi p it =
+pub begins_shift : (period : ℕ) (tdi : Bool) (p : Pen) → p.extras.tdos ≡ false → StandsInShift p.board → IsShifting tdi (after_mark period (Write false false tdi) p)
+begins_shift period tdi p alone it =
     ⊎_elim (λ dr. by Dr dr) (λ ir. by Ir ir) (either (all_at DrShift p.board.chips) (all_at IrShift p.board.chips) (released p.board.trst states high.1).1)
   where
     states : Bool
@@ -526,12 +536,12 @@ begins_shift period tdi p it =
         let all = all_there column cs h in
         let m : Message = Write false false tdi in
         let low = map fall cs in
-        let none : is_resting low ≡ false = no_rest column low (all_fallen column cs all) (omega (arith, it.some, count_fallen nets cs)) in
+        let none : is_resting low ≡ false = no_rest column low (all_fallen column cs all) (omega (arith, it.some, count_fallen p.extras alone nets cs)) in
         let time = later p.marks.time (period - period / 2) in
-        let so : after_mark period m (record { marks = p.marks; board = board true nets cs }) ≡ pen_at false tdi time nets low =
-        ap (λ (n : ℕ). behind nets false tdi time n low)
+        let so : after_mark period m (record { marks = p.marks; extras = p.extras; board = board true nets cs }) ≡ pen_at p.extras false tdi time nets low =
+        ap (λ (n : ℕ). behind p.extras alone nets false tdi time n low)
         (not_rested p.marks.rested (is_drawn_so p.marks.tms false) (is_drawn_so p.marks.tdi tdi) (is_resting low) none) in
-        let at : p ≡ record { marks = p.marks; board = board true nets cs } =
-        (λ i. record { marks = p.marks; board = record { tck = high.0 i; trst = (released p.board.trst states high.1).0 i; nets = nets; chips = cs } }) in
+        let at : p ≡ record { marks = p.marks; extras = p.extras; board = board true nets cs } =
+        (λ i. record { marks = p.marks; extras = p.extras; board = record { tck = high.0 i; trst = (released p.board.trst states high.1).0 i; nets = nets; chips = cs } }) in
         subst (λ (q : Pen). IsShifting tdi q) (sym (ap (after_mark period m) at ∙ so))
-        (record { board = shifts_low column nets cs all it.sound; lines = refl })
+        (record { alone = alone; board = shifts_low column nets cs all it.sound; lines = refl })

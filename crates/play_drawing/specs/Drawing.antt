@@ -9,7 +9,8 @@ use Rattle.bitbang_protocol.specs.declared.Message.TheVariants.{Write, Lines}
 use Rattle.bitbang_protocol.specs.declared.Cycle.{Cycle}
 use Rattle.board_model.specs.Chain.{ChipState, after_message}
 use Rattle.wave_files.specs.declared.shown.Shown.{Shown}
-use Rattle.wave_files.specs.Changes.{stamped_changes}
+use Rattle.wave_files.specs.Changes.{board_changes, line_changes, stamp}
+use Rattle.wave_files.specs.Extras.{all_extra_changes}
 use Rattle.wave_files.specs.Values.{shown_of}
 use Rattle.play_drawing.specs.declared.marks.Marks.{Marks}
 use Rattle.play_drawing.specs.Pens.{Pen}
@@ -86,13 +87,16 @@ marks_behind m marks tck cs =
 abbrev pub taken : Message → Pen → Pen
 taken m p =
     let b = after_message m p.board in
-    record { marks = marks_behind m p.marks b.tck b.chips; board = b }
+    record p { marks = marks_behind m p.marks b.tck b.chips; board = b }
 
 -- Within a stretch nothing is written.
 abbrev pub between : Pen → Pen → List ℕ
 between p q =
     if is_none p.marks.tck && is_none q.marks.tck then []
-    else stamped_changes p.marks.time (shown p) (shown q) p.board.nets p.board.chips q.board.chips
+    else stamp p.marks.time
+    ++ (line_changes (shown p) (shown q)
+    ++ (board_changes p.board.nets p.board.chips q.board.chips
+    ++ all_extra_changes p.extras p.board.nets p.board.chips q.board.chips))
 
 -- a question for TDO, the end and the lights are no line, and take no time
 abbrev pub is_drawn : Message → Bool

@@ -31,8 +31,9 @@ pub record StandsInShift (b : BoardState) : Type 0 where
   pub some : 0 < length b.chips
   pub sound : IsSoundBoard b
 
--- TCK low was drawn last, of a cycle that shifts and has this TDI.
+-- TCK low was drawn last, of a cycle that shifts and has this TDI. No TDO is drawn but that of the board.
 pub record IsShifting (tdi : Bool) (p : Pen) : Type 0 where
+  pub alone : p.extras.tdos ≡ false
   pub board : shifts p.board ≡ true
   pub lines : p.marks
       ≡ record { tck = Some false; tms = Some false; tdi = Some tdi; time = p.marks.time; rested = 0 }

@@ -13,6 +13,7 @@ use Rattle.play_model.specs.declared.kind.Kind.{Kind}
 use Rattle.play_model.specs.declared.kind.Kind.TheVariants.{Stops, PlaysOn}
 use Rattle.play_model.specs.Play.{Turn, play, turns, wants_of}
 use Rattle.output_words.specs.Digits.{digit}
+use Rattle.wave_files.specs.declared.extras.Extras.{Extras}
 use Rattle.wave_files.specs.Changes.{stamp}
 use Rattle.wave_files.specs.Codes.{binary}
 use Rattle.wave_files.specs.Heading.{heading_of}
@@ -90,7 +91,7 @@ stopped_in PlaysOn program b = None
 
 -- what stands before the first message
 abbrev pub heading : (noted : Bool) → Pen → List ℕ
-heading noted p = heading_of noted (shown p) p.board.chips p.board.nets
+heading noted p = heading_of noted p.extras (shown p) p.board.chips p.board.nets
 
 -- the kind of a player where it is told of the bits that it wants
 abbrev pub noting : (noted : Bool) → Kind → Option Kind
@@ -98,8 +99,8 @@ noting true kind = Some kind
 noting false kind = None
 
 -- The file of a program's play on a board, where this is the period in force at the statement of each number; where
--- `noted` is set it tells of the bits that are wanted.
-abbrev pub wave_file : (noted : Bool) → (period_of : ℕ → ℕ) → Kind → Program → BoardState → List ℕ
-wave_file noted period_of kind program b =
-    heading noted (begun b)
-    ++ wave (noting noted kind) period_of (stopped_in kind program b) (turns program.steps) (begun b)
+-- `noted` is set it tells of the bits that are wanted, and of each device what the extras say.
+abbrev pub wave_file : (noted : Bool) → Extras → (period_of : ℕ → ℕ) → Kind → Program → BoardState → List ℕ
+wave_file noted x period_of kind program b =
+    heading noted (begun x b)
+    ++ wave (noting noted kind) period_of (stopped_in kind program b) (turns program.steps) (begun x b)

@@ -25,15 +25,17 @@ use jt_board::Board;
 use output_words::digit_of;
 use std::marker::Model;
 use wave_files::{
-    STATEMENT_VARIABLE, first_of_notes, write_byte, write_changes, write_heading, write_number,
-    write_stamp,
+    Extras, STATEMENT_VARIABLE, first_of_notes, write_byte, write_changes, write_extra_changes,
+    write_heading, write_number, write_stamp,
 };
 
 /// Two boards that take the same messages: what differs between them while one of them has taken a message more is what
-/// that message changed. So a wave takes no memory. Contracts see it as what was drawn last, and the board.
+/// that message changed. So a wave takes no memory. Contracts see it as what was drawn last, what is drawn of each
+/// device besides, and the board.
 #[derive(Drop)]
 pub struct Drawing {
     marks: Marks,
+    extras: Extras,
     behind: Board,
     ahead: Board,
 }
@@ -46,7 +48,7 @@ impl Model for Drawing {
     ghost use Rattle.std.specs.Prelude.{◌≡◌, ◌≤◌, length};
     ghost use Rattle.jt_limits.specs.Limits.{limits};
 
-    ghost view = { λ d. record { marks = d.marks; board = d.ahead } };
+    ghost view = { λ d. record { marks = d.marks; extras = d.extras; board = d.ahead } };
 
     ghost invariant = { λ d. (d.ahead ≡ d.behind) × (length d.ahead.chips ≤ limits.devices)
         × (length d.ahead.nets ≤ limits.nets) };
@@ -54,10 +56,10 @@ impl Model for Drawing {
 
 impl Drawing {
     /// A wave as it begins, on two boards that are the same.
-    pub fn new(behind: Board, ahead: Board) -> Drawing
+    pub fn new(behind: Board, ahead: Board, extras: Extras) -> Drawing
         requires same { ahead ≡ behind }
         requires few_nets { length behind.nets ≤ limits.nets }
-        ensures { result ≡ begun behind }
+        ensures { result ≡ begun extras behind }
     {
         // For the proof alone: what is kept of a board's devices.
         let _ = ahead.devices();
@@ -69,6 +71,7 @@ impl Drawing {
                 time: 0,
                 rested: 0,
             },
+            extras,
             behind,
             ahead,
         }
@@ -81,7 +84,7 @@ impl Drawing {
         ensures { WritesAll W.contents out.old out.new (heading noted self.now) result }
     {
         let shown = shown_on(self.marks, &self.ahead);
-        write_heading(noted, shown, self.ahead.chain(), out)
+        write_heading(noted, self.extras, shown, self.ahead.chain(), out)
     }
 
     /// The number of the first variable that tells of the bits that are wanted.
@@ -130,7 +133,15 @@ impl Drawing {
         let tck = self.ahead.snapshot().tck();
         let after = marks_after(message, self.marks, tck, self.ahead.chain());
         let quiet = keeps_levels(message, self.behind.chain());
-        let written = write_between(self.marks, &self.behind, after, &self.ahead, quiet, out);
+        let written = write_between(
+            self.extras,
+            self.marks,
+            &self.behind,
+            after,
+            &self.ahead,
+            quiet,
+            out,
+        );
         let _ = self.behind.byte(encode(message));
         self.marks = Marks {
             time: time_after(after.time, duration(period, message)),
@@ -200,6 +211,7 @@ fn write_last_tck<W: Sink>(
 
 /// Writes what changed from one pen to the next: nothing within a stretch.
 fn write_between<W: Sink>(
+    extras: Extras,
     marks: Marks,
     behind: &Board,
     after: Marks,
@@ -213,23 +225,19 @@ fn write_between<W: Sink>(
     requires alike { length ahead.now.chips ≡ length behind.now.chips }
     requires alike_nets { ahead.now.nets ≡ behind.now.nets }
     requires quiet { quiet ≡ true → IsQuiet behind.now.nets behind.now.chips ahead.now.chips }
-    ensures { WritesAll W.contents out.old out.new (spec.between (record { marks = marks; board = behind.now })
-        (record { marks = after; board = ahead.now })) result }
+    ensures { WritesAll W.contents out.old out.new
+        (spec.between (record { marks = marks; extras = extras; board = behind.now })
+        (record { marks = after; extras = extras; board = ahead.now })) result }
 {
     if is_still(marks.tck, after.tck) {
         return put_all(out, b"");
     }
     let before = shown_on(marks, behind);
     let next = shown_on(after, ahead);
-    write_changes(
-        marks.time,
-        before,
-        next,
-        behind.chain(),
-        ahead.chain(),
-        quiet,
-        out,
-    )
+    let was = behind.chain();
+    let is = ahead.chain();
+    write_changes(marks.time, before, next, was, is, quiet, out)?;
+    write_extra_changes(extras, was, is, quiet, out)
 }
 
 /// Whether TCK was drawn as unknown, and is.

@@ -5,6 +5,7 @@ ghost use Rattle.std.specs.List.{list_all};
 ghost use Rattle.board_model.specs.Chain as model;
 ghost use Rattle.board_chips.specs.WiredChips.{chip_state};
 ghost use Rattle.play_drawing.specs.Holding as spec;
+ghost use Rattle.play_drawing.specs.Pens.{plain};
 
 use crate::marks::{DRAWN_RESTS, Marks, draws_so};
 use bitbang_protocol::Cycle;
@@ -14,7 +15,7 @@ use wave_files::is_same_state;
 
 /// Whether a cycle comes again, in a stretch, to devices that stay.
 pub(crate) fn is_held_by(cycle: Cycle, marks: Marks, board: &Board) -> bool
-    ensures { result ≡ spec.is_held_by cycle (record { marks = marks; board = board.now }) }
+    ensures { result ≡ spec.is_held_by cycle (plain marks board.now) }
 {
     marks.rested > DRAWN_RESTS
         && draws_so(marks.tms, cycle.tms)

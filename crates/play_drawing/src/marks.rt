@@ -4,6 +4,7 @@ ghost use Rattle.std.specs.Prelude.{◌≡◌, min, suc};
 ghost use Rattle.play_drawing.specs.Drawing as spec;
 ghost use Rattle.play_drawing.specs.Drawing.{is_drawn_so, is_resting, lasts, later, marks_behind, rests_behind};
 ghost use Rattle.play_drawing.specs.Drawing.{tck_drawn};
+ghost use Rattle.play_drawing.specs.Pens.{plain};
 
 use bitbang_protocol::Message;
 use board_chain::Chain;
@@ -28,7 +29,7 @@ pub struct Marks {
 
 /// What is written for the lines, as they are drawn, of a board.
 pub(crate) fn shown_on(marks: Marks, board: &Board) -> Shown
-    ensures { result ≡ spec.shown (record { marks = marks; board = board.now }) }
+    ensures { result ≡ spec.shown (plain marks board.now) }
 {
     Shown::of(
         marks.tck,

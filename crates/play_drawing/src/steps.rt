@@ -1,6 +1,6 @@
 //! The waves of cycles, of steps and of whole programs.
 
-ghost use Rattle.std.specs.Prelude.{◌≡◌, ◌<◌, ◌≤◌, true, OnOk, flat_map, replicate};
+ghost use Rattle.std.specs.Prelude.{◌≡◌, ◌<◌, ◌≤◌, true, false, OnOk, flat_map, replicate};
 ghost use Rattle.byte_streams.specs.Writes.{WritesAll};
 ghost use Rattle.jt_tap.specs.Controller.{is_stable};
 ghost use Rattle.bitbang_protocol.specs.Cycles.{closed_messages, opening};
@@ -184,6 +184,7 @@ fn draw_shifts<W: Sink>(
     requires none_lost { out.old.failures ≡ 0 }
     requires few { shifts.len ≤ 64 }
     requires stands { 0 < shifts.len → StandsInShift drawing.old.board }
+    requires alone { 0 < shifts.len → drawing.old.extras.tdos ≡ false }
     ensures writes { WritesAll W.contents out.old out.new
         (spec.draw period (flat_map cycle_messages (shift_cycles shifts)) drawing.old) result }
     ensures pen { OnOk result

@@ -1,6 +1,6 @@
 -- What is drawn is what is played, and how long it takes.
 use Rattle.std.proofs.Common.{◌≡◌, ◌⊎◌, inl, inr, ◌≤◌, ◌+◌, ◌-◌, ◌*◌, ℕ, suc, Bool, true, false, min, List, [], ◌∷◌, ◌++◌, length, Option, Some, None, refl, ap, ◌∙◌, arith}
-use Rattle.std.specs.Prelude.{◌/◌, flat_map, if◌then◌else◌}
+use Rattle.std.specs.Prelude.{◌/◌, flat_map, unwrap_or, if◌then◌else◌}
 use Rattle.bitbang_protocol.specs.declared.Cycle.{Cycle}
 use Rattle.bitbang_protocol.specs.declared.Message.{Message}
 use Rattle.bitbang_protocol.specs.declared.Message.TheVariants.{Write, Ask, Quit, Light, Lines}
@@ -14,9 +14,9 @@ use Rattle.board_model.specs.Chain.{ChipState, reply_of}
 use Rattle.board_model.specs.declared.Reply.TheVariants.{Answer}
 use Rattle.output_words.specs.Digits.{digit}
 use Rattle.play_drawing.specs.Drawing.{after_mark, lasts, latest, shown}
-use Rattle.play_waves.specs.Laws.{EachStepTakesItsCycles, TdoDrawnIsTheAnswer, TimeGoesOn, WhatIsDrawnIsTheBoard, step_time, time_of}
+use Rattle.play_waves.specs.Laws.{EachStepTakesItsCycles, EachTdoIsHandedOn, TdoDrawnIsTheAnswer, TimeGoesOn, WhatIsDrawnIsTheBoard, step_time, time_of}
 use Rattle.play_drawing.specs.Pens.{Pen}
-use Rattle.wave_files.specs.Values.{undriven}
+use Rattle.wave_files.specs.Values.{undriven, wire}
 
 -- ---- the board
 
@@ -43,6 +43,13 @@ drawn_tdo p = by p.board.chips
     by : (cs : List ChipState) → Shows p cs
     by [] = inr (refl, refl)
     by (c ∷ cs) = one c cs c.tdo
+
+pub handed_on : EachTdoIsHandedOn
+handed_on tdi c cs = by c.tdo
+  where
+    by : (o : Option Bool) → (wire undriven o ≡ digit (unwrap_or o true)) ⊎ ((wire undriven o ≡ undriven) × (unwrap_or o true ≡ true))
+    by None = inr (refl, refl)
+    by (Some b) = inl refl
 
 -- ---- time
 

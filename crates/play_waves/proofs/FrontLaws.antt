@@ -10,27 +10,29 @@ use Rattle.play_model.specs.declared.kind.Kind.{Kind}
 use Rattle.play_model.specs.Play.{turns}
 use Rattle.play_drawing.specs.Drawing.{shown}
 use Rattle.play_waves.specs.Fronts.{EachBeginsSo, front}
-use Rattle.wave_files.specs.Heading.{device_variables, first_values, net_variable, noted_variables}
+use Rattle.wave_files.specs.declared.extras.Extras.{Extras}
+use Rattle.wave_files.specs.Heading.{all_extra_variables, device_variables, first_values, net_variable, noted_variables}
 use Rattle.play_drawing.specs.Pens.{begun}
 use Rattle.wave_files.specs.Values.{by_numbers, first_of_devices, first_of_nets, first_of_notes, variables_of_device}
 use Rattle.play_drawing.specs.Waves.{noting, stopped_in, wave, wave_file}
 
 -- the variables behind the front
-abbrev further : (noted : Bool) → List ChipState → List Net → List ℕ
-further noted cs nets =
+abbrev further : (noted : Bool) → Extras → List ChipState → List Net → List ℕ
+further noted x cs nets =
     (noted_variables noted (first_of_notes cs nets) ++ codes "$upscope $end\n")
     ++ (by_numbers device_variables variables_of_device first_of_devices cs
-    ++ (by_numbers net_variable 1 (first_of_nets cs) nets ++ codes "$upscope $end\n$enddefinitions $end\n"))
+    ++ (by_numbers net_variable 1 (first_of_nets cs) nets
+    ++ (all_extra_variables x cs nets ++ codes "$upscope $end\n$enddefinitions $end\n")))
 
-abbrev rest : (noted : Bool) → (ℕ → ℕ) → Kind → Program → BoardState → List ℕ
-rest noted period_of kind program b =
-    (further noted b.chips b.nets ++ first_values noted (shown (begun b)) b.chips b.nets)
-    ++ wave (noting noted kind) period_of (stopped_in kind program b) (turns program.steps) (begun b)
+abbrev rest : (noted : Bool) → Extras → (ℕ → ℕ) → Kind → Program → BoardState → List ℕ
+rest noted x period_of kind program b =
+    (further noted x b.chips b.nets ++ first_values noted x (shown (begun x b)) b.chips b.nets)
+    ++ wave (noting noted kind) period_of (stopped_in kind program b) (turns program.steps) (begun x b)
 
 long : length front ≡ 218
 long = refl
 
 pub each_begins_so : EachBeginsSo
-each_begins_so noted period_of kind program b n enough =
-    take-take (length front) n (wave_file noted period_of kind program b) (omega (arith, enough, long))
-    ∙ take-append_seam front (rest noted period_of kind program b)
+each_begins_so noted x period_of kind program b n enough =
+    take-take (length front) n (wave_file noted x period_of kind program b) (omega (arith, enough, long))
+    ∙ take-append_seam front (rest noted x period_of kind program b)

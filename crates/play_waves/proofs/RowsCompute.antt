@@ -27,4 +27,6 @@ wave_rows = record {
   heading_of_two = rw (decimal_digit 2 (omega arith)) refl;
   net_row = refl;
   trst_row = refl;
+  extras_row = refl;
+  heading_of_extras = rw (decimal_digit 2 (omega arith)) refl;
 }

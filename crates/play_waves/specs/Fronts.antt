@@ -4,6 +4,7 @@ use Rattle.std.specs.Io.{StartsWith}
 use Rattle.svf_programs.specs.Steps.{Program}
 use Rattle.board_model.specs.Chain.{BoardState}
 use Rattle.play_model.specs.declared.kind.Kind.{Kind}
+use Rattle.wave_files.specs.declared.extras.Extras.{Extras}
 use Rattle.wave_files.specs.Heading.{line_variables}
 use Rattle.play_drawing.specs.Waves.{wave_file}
 
@@ -14,5 +15,5 @@ front = codes "$timescale 1 ps $end\n$scope module board $end\n" ++ line_variabl
 -- The first bytes of each wave file begin so, where they are 256 or more.
 abbrev pub EachBeginsSo : Type 0
 EachBeginsSo =
-    (noted : Bool) → (period_of : ℕ → ℕ) → (kind : Kind) → (program : Program) → (b : BoardState) → (n : ℕ) → 256 ≤ n
-    → StartsWith (take n (wave_file noted period_of kind program b)) front
+    (noted : Bool) → (x : Extras) → (period_of : ℕ → ℕ) → (kind : Kind) → (program : Program) → (b : BoardState)
+    → (n : ℕ) → 256 ≤ n → StartsWith (take n (wave_file noted x period_of kind program b)) front

@@ -13,14 +13,15 @@ use Rattle.scan_vectors.specs.Failures.{differing}
 use Rattle.scan_vectors.specs.Vector.{VectorBit, judge}
 use Rattle.svf_programs.specs.Steps.{Program, Step}
 use Rattle.tck_cycles.specs.Cycles.{cycles}
-use Rattle.board_model.specs.Chain.{BoardState, hear, reply_of}
+use Rattle.board_model.specs.Chain.{BoardState, ChipState, hear, reply_of, tdi_before}
 use Rattle.board_model.specs.declared.Reply.TheVariants.{Answer}
 use Rattle.play_model.specs.declared.ending.Ending.TheVariants.{Pass}
 use Rattle.play_model.specs.declared.kind.Kind.{Kind}
 use Rattle.play_model.specs.declared.kind.Kind.TheVariants.{Stops, PlaysOn}
 use Rattle.play_model.specs.Play.{play}
 use Rattle.output_words.specs.Digits.{digit}
-use Rattle.wave_files.specs.Values.{undriven}
+use Rattle.wave_files.specs.declared.extras.Extras.{Extras}
+use Rattle.wave_files.specs.Values.{undriven, wire}
 use Rattle.play_drawing.specs.declared.notes.Note.{Note}
 use Rattle.play_drawing.specs.Drawing.{after_drawing, after_mark, lasts, later, latest, shown}
 use Rattle.play_drawing.specs.Judging.{tdo_of, wanted_behind}
@@ -40,6 +41,13 @@ abbrev pub TdoDrawnIsTheAnswer : Type 0
 TdoDrawnIsTheAnswer = (p : Pen)
     → (reply_of Ask p.board ≡ Answer (shown p).tdo)
     ⊎ (((shown p).tdo ≡ undriven) × (reply_of Ask p.board ≡ Answer (digit true)))
+
+-- What is drawn of a device's TDO is what the next device nearer TDO takes as TDI; undriven it is drawn as `z`, and
+-- taken as 1.
+abbrev pub EachTdoIsHandedOn : Type 0
+EachTdoIsHandedOn = (tdi : Bool) (c : ChipState) (cs : List ChipState)
+    → (wire undriven c.tdo ≡ digit (tdi_before tdi (c ∷ cs)))
+    ⊎ ((wire undriven c.tdo ≡ undriven) × (tdi_before tdi (c ∷ cs) ≡ true))
 
 -- ---- time
 
@@ -98,5 +106,6 @@ pub record WhatFailsIsTold : Type 0 where
 
 -- Its file, without what is told of the bits that are wanted, is that of a play that goes on behind failures.
 abbrev pub APassIsDrawnToItsEnd : Type 0
-APassIsDrawnToItsEnd = (period_of : ℕ → ℕ) (program : Program) (b : BoardState) → (play program b).ending ≡ Pass
-    → wave_file false period_of Stops program b ≡ wave_file false period_of PlaysOn program b
+APassIsDrawnToItsEnd = (x : Extras) (period_of : ℕ → ℕ) (program : Program) (b : BoardState)
+    → (play program b).ending ≡ Pass
+    → wave_file false x period_of Stops program b ≡ wave_file false x period_of PlaysOn program b

@@ -11,14 +11,16 @@ use Rattle.play_model.specs.Play.{turns}
 use Rattle.svf_programs.specs.Steps.{Numbered}
 use Rattle.wave_files.specs.Codes.{code}
 use Rattle.play_drawing.specs.Drawing.{after_drawing, draw}
+use Rattle.wave_files.specs.declared.extras.Extras.{Extras}
 use Rattle.wave_files.specs.Changes.{stamp}
+use Rattle.wave_files.specs.Extras.{no_extras}
 use Rattle.play_drawing.specs.Waves.{heading}
 use Rattle.play_drawing.specs.Pens.{Pen, begun}
 use Rattle.play_waves.specs.Samples.{asserting, delayed, driving, failing, pair, selecting, waiting}
 use Rattle.play_drawing.specs.Waves.{begins, wave}
 
 abbrev pub fresh : Pen
-fresh = begun (bare_board 1)
+fresh = begun no_extras (bare_board 1)
 
 abbrev pub cycle : List Message
 cycle = Write false false false ∷ Write true false false ∷ []
@@ -33,13 +35,13 @@ messages_of count steps = flat_map (λ t. t.messages) (take count (turns steps))
 -- The wave behind so many turns, which took no time. From there on TCK low lasts 1 ps and TCK high none.
 abbrev pub wave_behind : (count : ℕ) → List Numbered → BoardState → List ℕ
 wave_behind count steps b =
-    wave None (λ command. 1) None (drop count (turns steps)) (after_drawing 0 (messages_of count steps) (begun b))
+    wave None (λ command. 1) None (drop count (turns steps)) (after_drawing 0 (messages_of count steps) (begun no_extras b))
 
 -- the same of a bare device, with what a player of this kind is told of the bits that it wants
 abbrev pub noted_behind : Kind → (count : ℕ) → List Numbered → List ℕ
 noted_behind kind count steps =
     wave (Some kind) (λ command. 1) None (drop count (turns steps))
-    (after_drawing 0 (messages_of count steps) (begun (bare_board 1)))
+    (after_drawing 0 (messages_of count steps) (begun no_extras (bare_board 1)))
 
 -- What is written at a time: the lines of what changed.
 pub record Written : Type 0 where
@@ -73,6 +75,15 @@ behind_bits =
 -- a turn: its number, and its messages one after another
 abbrev pub turn : Written → List Written → List ℕ
 turn number messages = written number ++ all_written messages
+
+-- the names of instructions and each device's TDO besides
+abbrev pub both : Extras
+both = record { names = true; tdos = true }
+
+-- the wave behind so many turns, as above, with these
+abbrev pub extra_behind : Extras → (count : ℕ) → List Numbered → BoardState → List ℕ
+extra_behind x count steps b =
+    wave None (λ command. 1) None (drop count (turns steps)) (after_drawing 0 (messages_of count steps) (begun x b))
 
 pub record WaveRows : Type 0 where
   pub first_code : code 0 ≡ codes "!"
@@ -153,7 +164,7 @@ pub record WaveRows : Type 0 where
   pub stopped : wave None (λ command. 1) (Some 1) (drop 1 (turns (delayed ∷ driving ∷ asserting ∷ [])))
       (after_drawing 0 (messages_of 1 []) fresh)
       ≡ wave_behind 1 (delayed ∷ []) (bare_board 1)
-  pub heading_of_two : heading false (begun pair)
+  pub heading_of_two : heading false (begun no_extras pair)
       ≡ codes "$timescale 1 ps $end\n$scope module board $end\n$scope module tap $end\n$var wire 1 ! TCK $end\n"
       ++ (codes "$var wire 1 \" TMS $end\n$var wire 1 # TDI $end\n$var wire 1 $ TDO $end\n"
       ++ (codes "$var wire 1 % TRST $end\n$var integer 32 & statement $end\n$upscope $end\n$scope module U1 $end\n"
@@ -183,3 +194,34 @@ pub record WaveRows : Type 0 where
       ∷ at 4 (codes "1!\nb1111 *\nsRESET +\n") ∷ at 4 (codes "0!\n") ∷ at 5 (codes "1!\n")
       ∷ at 5 (codes "0!\n") ∷ at 6 (codes "1!\n") ∷ at 6 (codes "0!\n0\"\n") ∷ [])
       ++ (stamp 7 ++ [])
+  -- with names and TDOs: their variables come last, in the scopes of their devices
+  pub heading_of_extras : heading false (begun both pair)
+      ≡ codes "$timescale 1 ps $end\n$scope module board $end\n$scope module tap $end\n$var wire 1 ! TCK $end\n"
+      ++ (codes "$var wire 1 \" TMS $end\n$var wire 1 # TDI $end\n$var wire 1 $ TDO $end\n"
+      ++ (codes "$var wire 1 % TRST $end\n$var integer 32 & statement $end\n$upscope $end\n$scope module U1 $end\n"
+      ++ (codes "$var reg 4 ' U1_state $end\n$var string 1 ( U1_word $end\n$var reg 2 ) U1_instruction $end\n"
+      ++ (codes "$upscope $end\n$scope module U2 $end\n$var reg 4 * U2_state $end\n$var string 1 + U2_word $end\n"
+      ++ (codes "$var reg 2 , U2_instruction $end\n$upscope $end\n$var wire 1 - N $end\n"
+      ++ (codes "$scope module U1 $end\n$var string 1 2 U1_instruction_name $end\n$var wire 1 3 U1_tdo $end\n"
+      ++ (codes "$upscope $end\n$scope module U2 $end\n$var string 1 4 U2_instruction_name $end\n"
+      ++ (codes "$var wire 1 5 U2_tdo $end\n$upscope $end\n$upscope $end\n"
+      ++ (codes "$enddefinitions $end\n#0\n$dumpvars\n0!\nx\"\nx#\nz$\n1%\nb0 &\n"
+      ++ (codes "b1111 '\nsRESET (\nb11 )\nb1111 *\nsRESET +\nb11 ,\nz-\n"
+      ++ codes "sBYPASS 2\nz3\nsBYPASS 4\nz5\n$end\n"))))))))))
+  -- EXTEST goes into U1, whose TDO hands on what U2 gives out one cycle later; its name comes with its bits
+  pub extras_row : extra_behind both 1 (selecting ∷ []) pair
+      ≡ turn (at 0 (codes "b1 &\n"))
+      (at 0 [] ∷ at 1 (codes "1!\nb1100 '\nsIDLE (\nb1100 *\nsIDLE +\n") ∷ at 1 (codes "0!\n1\"\n")
+      ∷ at 2 (codes "1!\nb0111 '\nsDRSELECT (\nb0111 *\nsDRSELECT +\n") ∷ at 2 (codes "0!\n")
+      ∷ at 3 (codes "1!\nb0100 '\nsIRSELECT (\nb0100 *\nsIRSELECT +\n") ∷ at 3 (codes "0!\n0\"\n")
+      ∷ at 4 (codes "1!\nb1110 '\nsIRCAPTURE (\nb1110 *\nsIRCAPTURE +\n") ∷ at 4 (codes "0!\n")
+      ∷ at 5 (codes "1!\nb1010 '\nsIRSHIFT (\nb1010 *\nsIRSHIFT +\n") ∷ at 5 (codes "0!\n1$\n13\n15\n")
+      ∷ at 6 (codes "1!\n") ∷ at 6 (codes "0!\n0$\n03\n05\n")
+      ∷ at 7 (codes "1!\n") ∷ at 7 (codes "0!\n1#\n1$\n13\n")
+      ∷ at 8 (codes "1!\n") ∷ at 8 (codes "0!\n1\"\n0$\n03\n")
+      ∷ at 9 (codes "1!\nb1001 '\nsIREXIT1 (\nb1001 *\nsIREXIT1 +\n")
+      ∷ at 9 (codes "0!\n0#\nz$\nz3\nz5\n")
+      ∷ at 10 (codes "1!\nb1101 '\nsIRUPDATE (\nb1101 *\nsIRUPDATE +\n")
+      ∷ at 10 (codes "0!\n0\"\nb00 )\nsEXTEST 2\n")
+      ∷ at 11 (codes "1!\nb1100 '\nsIDLE (\nb1100 *\nsIDLE +\n") ∷ at 11 (codes "0!\n") ∷ [])
+      ++ (stamp 12 ++ [])

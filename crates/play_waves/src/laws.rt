@@ -1,14 +1,15 @@
 //! What holds of every wave, and worked waves.
 
-ghost use Rattle.play_waves.specs.Laws.{APassIsDrawnToItsEnd, EachStepTakesItsCycles, TdoDrawnIsTheAnswer};
-ghost use Rattle.play_waves.specs.Laws.{TimeGoesOn, WhatFailsIsTold, WhatIsDrawnIsTheBoard};
+ghost use Rattle.play_waves.specs.Laws.{APassIsDrawnToItsEnd, EachStepTakesItsCycles, EachTdoIsHandedOn};
+ghost use Rattle.play_waves.specs.Laws.{TdoDrawnIsTheAnswer, TimeGoesOn, WhatFailsIsTold, WhatIsDrawnIsTheBoard};
 ghost use Rattle.play_waves.specs.Rows.{WaveRows};
 
 /// Behind any messages what is drawn is the board that took them; and TDO as it is drawn then is the byte with which
-/// the board answers `R`, but where it is undriven.
+/// the board answers `R`, but where it is undriven. Where each device's TDO is drawn, that is the TDI of the next one.
 pub fn what_is_drawn_is_played()
     ensures board { WhatIsDrawnIsTheBoard }
     ensures tdo { TdoDrawnIsTheAnswer }
+    ensures tdos { EachTdoIsHandedOn }
 {}
 
 /// Messages last one after another, up to the last time that is told; a step lasts a period for each of its cycles, and

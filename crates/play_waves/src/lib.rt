@@ -1,6 +1,6 @@
 //! The waves of a play: a value change dump (IEEE Std 1364-2001, clause 18) of the lines of the TAP, of the devices and
 //! of the named nets, message by message; where it is asked for also of the bits that scans want, and of those that
-//! fail.
+//! fail, of the names of instructions, and of each device's TDO.
 //!
 //! They are drawn on boards of their own, on which the program is played once more, so that the play itself is as
 //! without them.
@@ -21,5 +21,5 @@ pub use laws::{
 pub use plain::{WithoutStrings, pieces_are_one};
 pub use stage::Stage;
 pub use undrawn::{Undrawn, status_behind};
-pub use wave_files::codes_differ;
+pub use wave_files::{Extras, codes_differ};
 pub use waves::write_waves;

@@ -12,6 +12,7 @@ use play_drawing::Drawing;
 use play_model::Kind;
 use std::alloc::{AllocError, Global};
 use std::marker::Model;
+use wave_files::Extras;
 
 /// Boards that are the same, as they power up: two on which a wave is drawn, and for a play that stops at its first
 /// failure a third, on which it is judged. Contracts see that board, and which kind of player plays on it.
@@ -62,17 +63,17 @@ impl Stage {
         }
     }
 
-    /// The board on which the play is judged, if it is, and a wave as it begins on the other two.
-    pub(crate) fn opened(self) -> (Option<Board>, Drawing)
+    /// The board on which the play is judged, if it is, and a wave as it begins on the other two, with these extras.
+    pub(crate) fn opened(self, extras: Extras) -> (Option<Board>, Drawing)
         ensures judge { result.0 ≡ judge_for self.kind self.board }
-        ensures drawing { result.1 ≡ begun self.board }
+        ensures drawing { result.1 ≡ begun extras self.board }
     {
         let Stage {
             judge,
             behind,
             ahead,
         } = self;
-        (judge, Drawing::new(behind, ahead))
+        (judge, Drawing::new(behind, ahead, extras))
     }
 }
 

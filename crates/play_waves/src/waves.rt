@@ -35,26 +35,29 @@ use play_model::{Ending, Kind};
 use scan_vectors::{Vector, next_wanted};
 use svf_programs::{Action, Program, Step};
 use tck_cycles::{Source, place_after};
+use wave_files::Extras;
 
 /// Writes the wave file of an accepted program, which is lent, as the player of a stage plays it on its board. Where
-/// `noted` is set, the file tells of the bits that are wanted, and of those that fail. It takes no memory.
+/// `noted` is set, the file tells of the bits that are wanted, and of those that fail; of each device it tells besides
+/// what `extras` says. It takes no memory.
 ///
 /// `Broken` comes exactly where the writer's first failure came in this call.
 pub fn write_waves<W: Sink>(
     program: &Program,
     stage: Stage,
     noted: bool,
+    extras: Extras,
     out: &mut Counted<W>,
 ) -> Result<(), Broken>
     requires { out.old.failures ≡ 0 }
     // What is drawn of a program.
-    ensures program { WritesAll W.contents out.old out.new
-        (spec.wave_file noted (period_in program.now.periods) stage.kind (program_of program.now) stage.board) result }
+    ensures program { WritesAll W.contents out.old out.new (spec.wave_file noted extras (period_in program.now.periods)
+        stage.kind (program_of program.now) stage.board) result }
     // Where it is the program of a text that was accepted, with the periods of that, these are the waves of the text.
     ensures text { (text : List ℕ) → Accepts text (program_of program.now) → KeepsPeriodsOf text program.now.periods
-        → Draws W.contents noted text stage.kind stage.board out.old out.new result }
+        → Draws W.contents noted extras text stage.kind stage.board out.old out.new result }
 {
-    write_file(program, stage, noted, out)
+    write_file(program, stage, noted, extras, out)
 }
 
 /// Writes the wave file of a program.
@@ -62,14 +65,15 @@ fn write_file<W: Sink>(
     program: &Program,
     stage: Stage,
     noted: bool,
+    extras: Extras,
     out: &mut Counted<W>,
 ) -> Result<(), Broken>
     requires { out.old.failures ≡ 0 }
-    ensures { WritesAll W.contents out.old out.new
-        (spec.wave_file noted (period_in program.now.periods) stage.kind (program_of program.now) stage.board) result }
+    ensures { WritesAll W.contents out.old out.new (spec.wave_file noted extras (period_in program.now.periods)
+        stage.kind (program_of program.now) stage.board) result }
 {
     let kind = noting(noted, stage.kind());
-    let (judge, mut drawing) = stage.opened();
+    let (judge, mut drawing) = stage.opened(extras);
     let failed = stopped_in(program, judge);
     drawing.head(noted, out)?;
     draw_program(program, kind, failed, &mut drawing, out)

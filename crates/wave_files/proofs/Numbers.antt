@@ -18,6 +18,10 @@ pub by_three : (n i : ℕ) → number 3 n i ≡ n + 3 * i
 by_three n zero = omega arith
 by_three n (suc i) = let rest = by_three (n + 3) i in omega (arith, rest)
 
+pub by_two : (n i : ℕ) → number 2 n i ≡ n + 2 * i
+by_two n zero = omega arith
+by_two n (suc i) = let rest = by_two (n + 2) i in omega (arith, rest)
+
 pub by_one : (n i : ℕ) → number 1 n i ≡ n + i
 by_one n zero = omega arith
 by_one n (suc i) = let rest = by_one (n + 1) i in omega (arith, rest)

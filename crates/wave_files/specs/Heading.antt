@@ -5,8 +5,10 @@ use Rattle.pin_nets.specs.Wired.{Net}
 use Rattle.board_model.specs.Chain.{ChipState, members}
 use Rattle.board_model.specs.Nets.{level}
 use Rattle.wave_files.specs.Codes.{code}
+use Rattle.wave_files.specs.declared.extras.Extras.{Extras}
 use Rattle.wave_files.specs.declared.shown.Shown.{Shown}
 use Rattle.output_words.specs.Digits.{digit}
+use Rattle.wave_files.specs.Extras.{all_extra_lines, draws_any, extras_of_device, first_of_extras}
 use Rattle.wave_files.specs.Values.{bits_line, by_numbers, byte_line, device_lines, first_of_devices, first_of_nets}
 use Rattle.wave_files.specs.Values.{first_of_notes, latch, level_byte, unknown, variables_of_device, word_line}
 
@@ -63,12 +65,33 @@ device_variables n c = variables_named n c.member.name (length (latch c))
 abbrev pub net_variable : ℕ → Net → List ℕ
 net_variable n net = variable (codes "wire 1") n net.name
 
-abbrev pub variables : (noted : Bool) → List ChipState → List Net → List ℕ
-variables noted cs nets =
+-- What is drawn of a device besides stands in its scope, which is opened once more.
+abbrev pub name_variable : (names : Bool) → ℕ → (device : List ℕ) → List ℕ
+name_variable names n device =
+    if names then codes "$var string 1 " ++ named n device (codes "_instruction_name") else []
+
+abbrev pub tdo_variable : (tdos : Bool) → ℕ → (device : List ℕ) → List ℕ
+tdo_variable tdos n device = if tdos then codes "$var wire 1 " ++ named n device (codes "_tdo") else []
+
+abbrev pub extras_named : Extras → ℕ → (device : List ℕ) → List ℕ
+extras_named x n device =
+    scope device
+    ++ (name_variable x.names n device ++ (tdo_variable x.tdos (n + 1) device ++ codes "$upscope $end\n"))
+
+abbrev pub extra_variables : Extras → ℕ → ChipState → List ℕ
+extra_variables x n c = extras_named x n c.member.name
+
+abbrev pub all_extra_variables : Extras → List ChipState → List Net → List ℕ
+all_extra_variables x cs nets =
+    if draws_any x then by_numbers (extra_variables x) extras_of_device (first_of_extras cs nets) cs else []
+
+abbrev pub variables : (noted : Bool) → Extras → List ChipState → List Net → List ℕ
+variables noted x cs nets =
     codes "$timescale 1 ps $end\n$scope module board $end\n"
     ++ (tap_variables noted (first_of_notes cs nets)
     ++ (by_numbers device_variables variables_of_device first_of_devices cs
-    ++ (by_numbers net_variable 1 (first_of_nets cs) nets ++ codes "$upscope $end\n$enddefinitions $end\n")))
+    ++ (by_numbers net_variable 1 (first_of_nets cs) nets
+    ++ (all_extra_variables x cs nets ++ codes "$upscope $end\n$enddefinitions $end\n"))))
 
 -- ---- their first values
 
@@ -99,11 +122,13 @@ first_notes n =
 abbrev pub noted_values : (noted : Bool) → ℕ → List ℕ
 noted_values noted n = if noted then first_notes n else []
 
-abbrev pub first_values : (noted : Bool) → Shown → List ChipState → List Net → List ℕ
-first_values noted s cs nets =
+abbrev pub first_values : (noted : Bool) → Extras → Shown → List ChipState → List Net → List ℕ
+first_values noted x s cs nets =
     codes "#0\n$dumpvars\n"
     ++ (first_lines s
-    ++ (first_number ++ (board_lines cs nets ++ (noted_values noted (first_of_notes cs nets) ++ codes "$end\n"))))
+    ++ (first_number
+    ++ (board_lines cs nets
+    ++ (noted_values noted (first_of_notes cs nets) ++ (all_extra_lines x cs nets ++ codes "$end\n")))))
 
-abbrev pub heading_of : (noted : Bool) → Shown → List ChipState → List Net → List ℕ
-heading_of noted s cs nets = variables noted cs nets ++ first_values noted s cs nets
+abbrev pub heading_of : (noted : Bool) → Extras → Shown → List ChipState → List Net → List ℕ
+heading_of noted x s cs nets = variables noted x cs nets ++ first_values noted x s cs nets

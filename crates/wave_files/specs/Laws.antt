@@ -2,6 +2,7 @@
 use Rattle.std.specs.Prelude.{◌≡◌, ℕ, ◌+◌, ◌*◌, ◌<◌, ◌≤◌}
 use Rattle.jt_limits.specs.Limits.{limits}
 use Rattle.wave_files.specs.Codes.{base, code}
+use Rattle.wave_files.specs.Extras.{extras_of_device}
 use Rattle.wave_files.specs.Values.{first_of_devices, variables_of_device, variables_of_notes}
 
 -- A code has at most three digits, so there are so many.
@@ -15,4 +16,6 @@ CodesDiffer = (m n : ℕ) → m < codes_there_are → n < codes_there_are → co
 -- .. and there is one for each variable of the largest board.
 abbrev pub CodesSuffice : Type 0
 CodesSuffice =
-    first_of_devices + variables_of_device * limits.devices + limits.nets + variables_of_notes ≤ codes_there_are
+    first_of_devices + variables_of_device * limits.devices + limits.nets + variables_of_notes
+    + extras_of_device * limits.devices
+    ≤ codes_there_are

@@ -151,7 +151,7 @@ fn write_instruction_change<W: Sink>(
 }
 
 /// Whether two instructions are one.
-fn are_same(one: &Bits, other: &Bits) -> bool
+pub(crate) fn are_same(one: &Bits, other: &Bits) -> bool
     ensures { result ≡ pointwise beq one.now other.now }
 {
     one == other

@@ -15,17 +15,19 @@ use crate::changes::{FIRST_OF_DEVICES, VARIABLES_OF_DEVICE, level_of};
 use crate::codes::{
     write_bits_line, write_byte, write_code, write_instruction, write_state, write_word_line,
 };
+use crate::extras::{Extras, write_extra_values, write_extra_variables};
 use crate::shown::{Shown, UNKNOWN};
 use board_chain::{Chain, WiredChip};
 use byte_streams::{Broken, Counted, Sink, put_all, put_pieces};
 use itoa::Buffer;
 
 /// Writes the variables of a chain, and what each shows at the start. Where `noted` is set, among them are those that
-/// tell of the bits that scans want.
+/// tell of the bits that scans want, and those of what is drawn besides.
 ///
 /// `Broken` comes exactly where the writer's first failure came in this call.
 pub fn write_heading<W: Sink>(
     noted: bool,
+    extras: Extras,
     shown: Shown,
     chain: &Chain,
     out: &mut Counted<W>,
@@ -33,10 +35,11 @@ pub fn write_heading<W: Sink>(
     requires none_lost { out.old.failures ≡ 0 }
     requires few { length chain.now.chips ≤ limits.devices }
     requires few_nets { length chain.now.nets ≤ limits.nets }
-    ensures { WritesAll W.contents out.old out.new (spec.heading_of noted shown chain.now.chips chain.now.nets) result }
+    ensures { WritesAll W.contents out.old out.new (spec.heading_of noted extras shown chain.now.chips chain.now.nets)
+        result }
 {
-    write_variables(noted, chain, out)?;
-    write_first_values(noted, shown, chain, out)
+    write_variables(noted, extras, chain, out)?;
+    write_first_values(noted, extras, shown, chain, out)
 }
 
 /// The number of the first variable that tells of the bits that scans want.
@@ -50,17 +53,23 @@ pub fn first_of_notes(chain: &Chain) -> usize
 }
 
 /// Writes the variables in their scopes.
-fn write_variables<W: Sink>(noted: bool, chain: &Chain, out: &mut Counted<W>) -> Result<(), Broken>
+fn write_variables<W: Sink>(
+    noted: bool,
+    extras: Extras,
+    chain: &Chain,
+    out: &mut Counted<W>,
+) -> Result<(), Broken>
     requires none_lost { out.old.failures ≡ 0 }
     requires few { length chain.now.chips ≤ limits.devices }
     requires few_nets { length chain.now.nets ≤ limits.nets }
-    ensures { WritesAll W.contents out.old out.new (variables noted chain.now.chips chain.now.nets) result }
+    ensures { WritesAll W.contents out.old out.new (variables noted extras chain.now.chips chain.now.nets) result }
 {
     let number = first_of_notes(chain);
     put_all(out, b"$timescale 1 ps $end\n$scope module board $end\n")?;
     write_tap_variables(noted, number, out)?;
     write_device_variables(chain, out)?;
     write_net_variables(chain, out)?;
+    write_extra_variables(extras, chain, out)?;
     put_all(out, b"$upscope $end\n$enddefinitions $end\n")
 }
 
@@ -173,7 +182,7 @@ fn write_variables_named<W: Sink>(
 }
 
 /// Writes the code of a variable and its name, which begins with its device's.
-fn write_named<W: Sink>(
+pub(crate) fn write_named<W: Sink>(
     number: usize,
     device: &str,
     leaf: &[u8],
@@ -189,7 +198,7 @@ fn write_named<W: Sink>(
 }
 
 /// Writes that a scope begins.
-fn write_scope<W: Sink>(name: &str, out: &mut Counted<W>) -> Result<(), Broken>
+pub(crate) fn write_scope<W: Sink>(name: &str, out: &mut Counted<W>) -> Result<(), Broken>
     requires { out.old.failures ≡ 0 }
     ensures { WritesAll W.contents out.old out.new (scope name.now) result }
 {
@@ -258,6 +267,7 @@ fn write_net_variable<W: Sink>(
 /// Writes what each variable shows at the start.
 fn write_first_values<W: Sink>(
     noted: bool,
+    extras: Extras,
     shown: Shown,
     chain: &Chain,
     out: &mut Counted<W>,
@@ -265,7 +275,8 @@ fn write_first_values<W: Sink>(
     requires none_lost { out.old.failures ≡ 0 }
     requires few { length chain.now.chips ≤ limits.devices }
     requires few_nets { length chain.now.nets ≤ limits.nets }
-    ensures { WritesAll W.contents out.old out.new (first_values noted shown chain.now.chips chain.now.nets) result }
+    ensures { WritesAll W.contents out.old out.new (first_values noted extras shown chain.now.chips chain.now.nets)
+        result }
 {
     let number = first_of_notes(chain);
     put_all(out, b"#0\n$dumpvars\n")?;
@@ -273,6 +284,7 @@ fn write_first_values<W: Sink>(
     put_all(out, b"b0 &\n")?;
     write_board(chain, out)?;
     write_noted_values(noted, number, out)?;
+    write_extra_values(extras, chain, out)?;
     put_all(out, b"$end\n")
 }
 

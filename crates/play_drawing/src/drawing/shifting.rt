@@ -55,13 +55,18 @@ impl Lines {
 }
 
 impl Drawing {
-    /// How many cycles that shift can be drawn at once: none unless the board stands in Shift.
+    /// How many cycles that shift can be drawn at once: none unless the board stands in Shift, and no TDO is drawn but
+    /// that of the board.
     pub(crate) fn shifts_at_once(&self) -> u64
         ensures few { result ≤ 64 }
         ensures stands { 0 < result → StandsInShift self.now.board }
+        ensures alone { 0 < result → self.now.extras.tdos ≡ false }
     {
         // For the proof alone: what is kept of a board's devices.
         let _ = self.ahead.devices();
+        if self.extras.tdos {
+            return 0;
+        }
         if !stands_in_shift(&self.ahead) {
             return 0;
         }

@@ -30,7 +30,7 @@ shift-requires-clause-shifting g c =
     let some : 0 < c.args.shifts.len = omega (arith, c.if-shifts-eq0.false) in
     let is_low : c.level.result ≡ Write false false tdi = c.level.ensures ∙ ap (λ (k : Cycle). Write false k.tms k.tdi) c.cycle.ensures in
     subst (λ (q : Pen). IsShifting tdi q) (sym (c.in_ok-draw.ensures.pen ∙ ap (λ (m : Message). after_mark period m p) is_low))
-    (begins_shift period tdi p (c.requires.stands some))
+    (begins_shift period tdi p (c.requires.alone some) (c.requires.stands some))
 
 pub returns-in_err-draw-clause-writes : goal.returns-in_err-draw-clause-writes
 returns-in_err-draw-clause-writes g c =

@@ -22,6 +22,9 @@ loop-source-init g c = record {
 pub draw_shifts-requires-clause-stands : goal.draw_shifts-requires-clause-stands
 draw_shifts-requires-clause-stands g c = λ some. c.shifts_at_once.ensures.stands (omega (arith, some, c.next_shifts-shifts.ensures.most))
 
+pub draw_shifts-requires-clause-alone : goal.draw_shifts-requires-clause-alone
+draw_shifts-requires-clause-alone g c = λ some. c.shifts_at_once.ensures.alone (omega (arith, some, c.next_shifts-shifts.ensures.most))
+
 pub loop-source-preserved : goal.loop-source-preserved
 loop-source-preserved g c =
     let period = c.args.period in

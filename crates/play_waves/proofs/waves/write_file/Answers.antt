@@ -12,7 +12,7 @@ pub returns-in_err-head : goal.returns-in_err-head
 returns-in_err-head g c =
     let program = program_of c.args.program.now in
     let noted = noting c.args.noted c.args.stage.kind in
-    let rest : List ℕ = wave noted (period_in c.args.program.now.periods) (stopped_in c.args.stage.kind program c.args.stage.board) (turns program.steps) (begun c.args.stage.board) in
+    let rest : List ℕ = wave noted (period_in c.args.program.now.periods) (stopped_in c.args.stage.kind program c.args.stage.board) (turns program.steps) (begun c.args.extras c.args.stage.board) in
     WritesAll-is (ap (λ (p : Pen). heading c.args.noted p ++ rest) c.opened-judge.ensures.drawing)
     (WritesAll-stopped rest c.in_err-head.ensures refl c.from_residual.ensures.0)
 

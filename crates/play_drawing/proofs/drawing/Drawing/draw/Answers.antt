@@ -58,13 +58,13 @@ returns-clause-writes g c =
     let s = c.self.inside in
     let m = c.args.message in
     let ahead = c.byte.new.self in
-    let next : pen c.marks_after-after.result ahead ≡ taken m (pen s.marks s.ahead) =
-    is_taken m s.marks c.marks_after-after.result s.ahead ahead c.tck-tck.result c.chain.result.now.chips
+    let next : pen s.extras c.marks_after-after.result ahead ≡ taken m (pen s.extras s.marks s.ahead) =
+    is_taken s.extras m s.marks c.marks_after-after.result s.ahead ahead c.tck-tck.result c.chain.result.now.chips
     (heard m c.encode.result s.ahead ahead c.encode.ensures c.byte.ensures.board)
     (c.tck-tck.ensures ∙ ap (λ (b : BoardState). b.tck) c.snapshot.ensures) c.chain.ensures.chips c.marks_after-after.ensures in
     WritesAll-is
-    (is_mark m c.args.self.now (pen s.marks s.behind) (pen c.marks_after-after.result ahead) c.requires.drawn
-    (ap (λ (b : BoardState). pen s.marks b) (sym c.self.invariant.0) ∙ c.self.view_is) (next ∙ ap (taken m) c.self.view_is))
+    (is_mark m c.args.self.now (pen s.extras s.marks s.behind) (pen s.extras c.marks_after-after.result ahead) c.requires.drawn
+    (ap (λ (b : BoardState). pen s.extras s.marks b) (sym c.self.invariant.0) ∙ c.self.view_is) (next ∙ ap (taken m) c.self.view_is))
     c.write_between-written.ensures
 
 pub returns-clause-pen : goal.returns-clause-pen
@@ -73,9 +73,9 @@ returns-clause-pen g c =
     let m = c.args.message in
     let ahead = c.byte.new.self in
     let after = c.marks_after-after.result in
-    let next : pen after ahead ≡ taken m (pen s.marks s.ahead) =
-    is_taken m s.marks after s.ahead ahead c.tck-tck.result c.chain.result.now.chips
+    let next : pen s.extras after ahead ≡ taken m (pen s.extras s.marks s.ahead) =
+    is_taken s.extras m s.marks after s.ahead ahead c.tck-tck.result c.chain.result.now.chips
     (heard m c.encode.result s.ahead ahead c.encode.ensures c.byte.ensures.board)
     (c.tck-tck.ensures ∙ ap (λ (b : BoardState). b.tck) c.snapshot.ensures) c.chain.ensures.chips c.marks_after-after.ensures in
-    is_after c.args.period m c.args.self.now (pen after ahead) c.time_after.result c.requires.drawn (next ∙ ap (taken m) c.self.view_is)
+    is_after c.args.period m c.args.self.now (pen s.extras after ahead) c.time_after.result c.requires.drawn (next ∙ ap (taken m) c.self.view_is)
     (c.time_after.ensures ∙ ap (later after.time) c.duration.ensures)

@@ -14,5 +14,5 @@ write_heading-requires-clause-few_nets g c = omega (arith, c.self.invariant.2, a
 
 pub returns : goal.returns
 returns g c =
-    WritesAll-is ((λ i. heading_of c.args.noted (c.shown_on-shown.ensures i) (c.chain.ensures.chips i) (c.chain.ensures.nets i)) ∙ ap (heading c.args.noted) c.self.view_is)
+    WritesAll-is ((λ i. heading_of c.args.noted c.self.inside.extras (c.shown_on-shown.ensures i) (c.chain.ensures.chips i) (c.chain.ensures.nets i)) ∙ ap (heading c.args.noted) c.self.view_is)
     c.write_heading.ensures

@@ -12,4 +12,4 @@ invariant_of-result c = (
 
 pub returns : goal.returns
 returns c =
-    begins c.args.ahead c.args.behind c.tck.result c.requires.same (c.tck.ensures ∙ ap (λ (b : BoardState). b.tck) c.snapshot.ensures)
+    begins c.args.extras c.args.ahead c.args.behind c.tck.result c.requires.same (c.tck.ensures ∙ ap (λ (b : BoardState). b.tck) c.snapshot.ensures)

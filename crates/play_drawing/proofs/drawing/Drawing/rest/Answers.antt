@@ -26,6 +26,6 @@ returns-clause-pen g c = λ cycle settled.
     let was = c.self.inside.marks in
     let low : c.ticked-low.result ≡ ticked_low period was = c.ticked-low.ensures in
     let high : c.ticked-high.result ≡ ticked_high period was = c.ticked-high.ensures ∙ ap (ticked true (period / 2)) low in
-    ap (λ (m : Marks). pen m c.self.inside.ahead) high
-    ∙ ap (λ (q : Pen). pen (ticked_high period q.marks) q.board) c.self.view_is
+    ap (λ (m : Marks). pen c.self.inside.extras m c.self.inside.ahead) high
+    ∙ ap (λ (q : Pen). pen q.extras (ticked_high period q.marks) q.board) c.self.view_is
     ∙ settled_pen period cycle c.args.self.now settled

@@ -66,6 +66,8 @@ returns-clause-pen g c =
     (c.tdo.ensures ∙ ap (λ (cs : List ChipState). tdi_before true cs) c.chain.ensures.chips) in
     let time : c.time_after.result ≡ later p.marks.time (c.args.count * c.args.period) =
     c.time_after.ensures ∙ (λ i. later (marks i).time (c.saturating_mul.ensures i)) ∙ later_most p.marks.time (c.args.count * c.args.period) in
-    (λ i. pen (record was { tdi = Some (c.tdi.ensures i); time = time i }) end)
+    (λ i. pen c.self.inside.extras (record was { tdi = Some (c.tdi.ensures i); time = time i }) end)
+    ∙ ap (λ (q : Pen). pen q.extras (record was { tdi = Some (has_bit c.args.tdi c.args.count); time = later p.marks.time (c.args.count * c.args.period) }) end)
+    c.self.view_is
     ∙ shifted_lines was p (has_bit c.args.tdi 0) (has_bit c.args.tdi c.args.count) (later p.marks.time (c.args.count * c.args.period)) end marks c.requires.shifting
     ∙ sym word.pen
