@@ -5,6 +5,5 @@ pub mod NetsKept
 pub mod Telling
 pub mod OnePlay
 pub mod Plain
-pub mod WordBits
 pub mod Putting
 pub mod Quiet
