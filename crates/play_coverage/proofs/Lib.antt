@@ -2,7 +2,7 @@ pub mod Marks
 pub mod Counting
 pub mod Tallying
 pub mod NetsKept
-pub mod Telling
+pub mod VerdictLines
 pub mod OnePlay
 pub mod Plain
 pub mod Putting

@@ -40,9 +40,8 @@ pub struct Telling {
     pub(crate) words: Vec<NoteWords>,
 }
 
-/// What one play of a program tells of the faults of a planned board. Refused where memory runs out.
-///
-/// Asks that the plan is ready, as those are that board files make.
+/// What one play of a program tells of the faults of a planned board that powers up (asked). Refused where memory runs
+/// out.
 pub fn serving_of(alloc: Global, plan: &Plan, program: &Program) -> Result<Serving, AllocError>
     requires { PowersUp plan.now }
     ensures { IfOk result (MayServe (program_of program.now) (wiring plan.now)) }
@@ -245,9 +244,7 @@ pub struct Chunk {
 }
 
 /// The next of the faults of a planned board that are left, and what one play tells of them; none where none is left.
-/// Refused where memory runs out.
-///
-/// Asks that the plan is ready, as those are that board files make.
+/// Refused where memory runs out. Asks that the plan is ready, as those are that board files make.
 pub fn next_chunk(
     alloc: Global,
     serving: &Serving,

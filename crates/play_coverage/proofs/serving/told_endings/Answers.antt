@@ -1,4 +1,5 @@
 use Rattle.std.proofs.Common.{rules, ◌≡◌, List, length, map, Option, None, Some, IfOk, [], sym, ap, subst, ◌∙◌}
+use Rattle.std.proofs.lemmas.List.{length-map}
 use Rattle.svf_programs.specs.Sizes.{program_of}
 use Rattle.board_plan.specs.declared.plan.PlannedNet.{PlannedNet}
 use Rattle.board_plan.specs.View.{net as planned_net, wiring}
@@ -18,11 +19,17 @@ returns-in_ok-from_elem-in-Nothing c =
     let ws = c.args.ways.now in
     subst (AreTold program w ws) (sym (c.in_ok-from_elem-in-Nothing.ensures.items_if_clones_equal (λ y h. search rules))) (none_told program w ws _)
 
-pub judge_block-requires-clause-telling : goal.judge_block-requires-clause-telling
-judge_block-requires-clause-telling c =
+pub judged-requires-clause-telling : goal.judged-requires-clause-telling
+judged-requires-clause-telling c =
     let w = wiring c.args.plan.now in
     let serves = subst (λ (s : Serving). MayServe (program_of c.args.program.now) w s) c.in-Whole.is c.requires.serving in
-    subst (λ (ns : List PlannedNet). IsTelling (map planned_net ns) c.in-Whole.telling.now) (sym c.deref.ensures.value) serves.1
+    subst (λ (ns : List PlannedNet). IsTelling (map planned_net ns) c.in-Whole.telling) (sym c.deref.ensures.value) serves.1
+
+pub judged-requires-clause-long : goal.judged-requires-clause-long
+judged-requires-clause-long c =
+    ap (λ (es : List (Option Ending)). length es)
+    (c.in_ok-endings-in-Whole.ensures.items_if_clones_equal (λ y h. search rules) ∙ all_open (wiring c.args.plan.now).nets c.args.ways.now)
+    ∙ length-map c.args.ways.now _
 
 pub returns-in_ok-endings-in-Whole : goal.returns-in_ok-endings-in-Whole
 returns-in_ok-endings-in-Whole c =
@@ -32,11 +39,11 @@ returns-in_ok-endings-in-Whole c =
     let serves = subst (λ (s : Serving). MayServe program w s) c.in-Whole.is c.requires.serving in
     let can = record { ready = c.requires.ready.powers_up.ready; sound = c.requires.ready.powers_up.sound; counted = c.requires.ready.counted } in
     subst (AreTold program w ws)
-    (sym (c.judge_block.ensures
-    ∙ ap (λ (ns : List PlannedNet). judged_on (map planned_net ns) (noted_in c.in-Whole.telling.now.block) ws c.in_ok-endings-in-Whole.endings.items) c.deref.ensures.value
-    ∙ ap (λ (es : List (Option Ending)). judged_on w.nets (noted_in c.in-Whole.telling.now.block) ws es)
+    (sym (c.judged.ensures
+    ∙ ap (λ (ns : List PlannedNet). judged_on (map planned_net ns) (noted_in c.in-Whole.telling.block) ws c.in_ok-endings-in-Whole.endings.items) c.deref.ensures.value
+    ∙ ap (λ (es : List (Option Ending)). judged_on w.nets (noted_in c.in-Whole.telling.block) ws es)
     (c.in_ok-endings-in-Whole.ensures.items_if_clones_equal (λ y h. search rules) ∙ all_open w.nets ws)
-    ∙ judged_more w.nets [] (noted_in c.in-Whole.telling.now.block) ws
+    ∙ judged_more w.nets [] (noted_in c.in-Whole.telling.block) ws
     ∙ ap (λ (cs : List Noted). endings_by w.nets cs ws) serves.2))
     (all_told program c.len.ensures.sound.legal w can serves.0 ws c.requires.ways)
 
