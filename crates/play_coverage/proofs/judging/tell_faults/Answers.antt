@@ -23,6 +23,7 @@ chunks-init c =
       judged = [];
       all = all;
       theirs = subst (AllByRecursion (IsFaultOf w.nets)) all (every_fault w.nets);
+      serving = c.in_ok-serving.ensures;
       bench = c.in_ok-bench.ensures;
       judges = tt;
       tells = c.tally_behind-tally.ensures c.args.listed w;
@@ -33,6 +34,9 @@ tell_chunk-requires-clause-may c = record { ready = c.requires.powers_up.ready; 
 
 pub next_chunk-requires-clause-faults : goal.next_chunk-requires-clause-faults
 next_chunk-requires-clause-faults c = c.chunks.invariant.theirs
+
+pub next_chunk-requires-clause-serving : goal.next_chunk-requires-clause-serving
+next_chunk-requires-clause-serving c = c.chunks.invariant.serving
 
 pub returns-then-is_empty : goal.returns-then-is_empty
 returns-then-is_empty c =
@@ -59,6 +63,7 @@ chunks-preserved c =
       judged = i.judged ++ more.0;
       all = i.all ∙ ap (λ (l : List Fault). i.done ++ l) chunk.next.are ∙ sym (append_assoc i.done fs (left_of c.next_chunk.new.left));
       theirs = chunk.others;
+      serving = i.serving;
       bench = c.in_ok-tell_chunk.ensures.bench;
       judges = judges_join (program_of c.args.program.now) w i.done fs i.judged more.0 i.judges more.1;
       tells = more.2;

@@ -7,7 +7,7 @@ use Rattle.board_faults.specs.declared.kinds.Fault.{Fault}
 use Rattle.board_faults.specs.Faults.{IsFaultOf, faults}
 use Rattle.board_faults.specs.Judging.{JudgesAll}
 use Rattle.board_faults.specs.Listing.{left_of}
-use Rattle.play_coverage.specs.Serving.{IsBench}
+use Rattle.play_coverage.specs.Serving.{IsBench, MayServe}
 use Rattle.play_coverage.specs.Tallies.{IsTally}
 use Rattle.play_coverage.proofs.judging.tell_faults.Given as goal
 
@@ -20,6 +20,7 @@ invariant-chunks l =
       judged : List Judged;
       all : faults w.nets ≡ done ++ left_of l.left;
       theirs : AllByRecursion (IsFaultOf w.nets) (left_of l.left);
+      serving : MayServe (program_of l.program) w l.serving;
       bench : IsBench w l.bench;
       judges : JudgesAll (program_of l.program) w done judged;
       tells : IsTally l.fn.text.items l.listed w judged l.tally;

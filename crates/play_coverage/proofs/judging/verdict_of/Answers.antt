@@ -1,16 +1,9 @@
-use Rattle.std.proofs.Common.{Some, ap, subst, ◌∙◌}
+use Rattle.std.proofs.Common.{subst}
 use Rattle.svf_programs.specs.Sizes.{program_of}
 use Rattle.board_plan.specs.View.{wiring}
 use Rattle.play_coverage.specs.Serving.{IsToldOf}
-use Rattle.play_coverage.proofs.OnePlay.{told_other, told_passed}
+use Rattle.play_coverage.proofs.OnePlay.{told_other}
 use Rattle.play_coverage.proofs.judging.verdict_of.Goals as goal
-
-pub returns-in_ok-passed_verdict-in-Some-Pass-clause-judged : goal.returns-in_ok-passed_verdict-in-Some-Pass-clause-judged
-returns-in_ok-passed_verdict-in-Some-Pass-clause-judged c =
-    let program = program_of c.args.program.now in
-    let w = wiring c.args.plan.now in
-    told_passed program w c.args.way c.in_ok-passed_verdict-in-Some-Pass.field-0
-    (subst (IsToldOf program w c.args.way) (c.in-Some-Pass.is ∙ ap Some c.in-Some-Pass.field-0-is) c.requires.told) c.in_ok-passed_verdict-in-Some-Pass.ensures
 
 pub returns-in-Some-clause-judged : goal.returns-in-Some-clause-judged
 returns-in-Some-clause-judged c =

@@ -1,4 +1,4 @@
-use Rattle.std.proofs.Common.{List, sym, subst}
+use Rattle.std.proofs.Common.{List, sym, ap, subst, ◌∙◌}
 use Rattle.std.specs.Prelude.{flat_map}
 use Rattle.std.specs.List.{AllByRecursion}
 use Rattle.svf_programs.specs.Sizes.{program_of}
@@ -17,7 +17,7 @@ told_endings-requires-clause-ways c =
     let fs = c.in_ok-faults.faults.items in
     let parts = split_all (IsFaultOf nets) fs (left_of c.next_faults.new.left)
     (subst (AllByRecursion (IsFaultOf nets)) c.in_ok-faults.ensures.are c.requires.faults) in
-    subst (AllByRecursion (IsWayOf nets)) (sym c.in_ok-ways.ensures) (all_ways nets fs parts.0)
+    subst (AllByRecursion (IsWayOf nets)) (sym (c.deref-2.ensures.value ∙ c.in_ok-ways.ensures ∙ ap (flat_map ways) c.deref.ensures.value)) (all_ways nets fs parts.0)
 
 pub returns : goal.returns
 returns c =
@@ -29,5 +29,6 @@ returns c =
       next = c.in_ok-faults.ensures;
       theirs = parts.0;
       others = parts.1;
-      told = subst (λ (ws : List Way). AreTold (program_of c.args.program.now) w ws c.in_ok-endings.endings.items) c.in_ok-ways.ensures c.in_ok-endings.ensures;
+      told = subst (λ (ws : List Way). AreTold (program_of c.args.program.now) w ws c.in_ok-endings.endings.items)
+          (c.deref-2.ensures.value ∙ c.in_ok-ways.ensures ∙ ap (flat_map ways) c.deref.ensures.value) c.in_ok-endings.ensures;
     }

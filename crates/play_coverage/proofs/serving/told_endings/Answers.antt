@@ -4,6 +4,7 @@ use Rattle.svf_programs.specs.Sizes.{program_of}
 use Rattle.board_plan.specs.declared.plan.PlannedNet.{PlannedNet}
 use Rattle.board_plan.specs.View.{net as planned_net, wiring}
 use Rattle.play_model.specs.declared.ending.Ending.{Ending}
+use Rattle.board_faults.specs.Faulty.{CanBeJudged}
 use Rattle.fault_events.specs.Blocks.{noted_in}
 use Rattle.fault_events.specs.Captures.{Noted}
 use Rattle.fault_events.proofs.Resting.{if_ok_then}
@@ -37,7 +38,7 @@ returns-in_ok-endings-in-Whole c =
     let w = wiring c.args.plan.now in
     let ws = c.args.ways.now in
     let serves = subst (λ (s : Serving). MayServe program w s) c.in-Whole.is c.requires.serving in
-    let can = record { ready = c.requires.ready.powers_up.ready; sound = c.requires.ready.powers_up.sound; counted = c.requires.ready.counted } in
+    let can : CanBeJudged w = record { ready = c.requires.ready.powers_up.ready; sound = c.requires.ready.powers_up.sound; counted = c.requires.ready.counted } in
     subst (AreTold program w ws)
     (sym (c.judged.ensures
     ∙ ap (λ (ns : List PlannedNet). judged_on (map planned_net ns) (noted_in c.in-Whole.telling.block) ws c.in_ok-endings-in-Whole.endings.items) c.deref.ensures.value
@@ -53,7 +54,7 @@ returns-in-Blocks c =
     let w = wiring c.args.plan.now in
     let ws = c.args.ways.now in
     let serves = subst (λ (s : Serving). MayServe program w s) c.in-Blocks.is c.requires.serving in
-    let can = record { ready = c.requires.ready.powers_up.ready; sound = c.requires.ready.powers_up.sound; counted = c.requires.ready.counted } in
+    let can : CanBeJudged w = record { ready = c.requires.ready.powers_up.ready; sound = c.requires.ready.powers_up.sound; counted = c.requires.ready.counted } in
     if_ok_then c.all_endings.result _ _
     (λ v is. subst (AreTold program w ws) (sym is) (all_told program c.len.ensures.sound.legal w can serves ws c.requires.ways))
     c.all_endings.ensures

@@ -24,6 +24,7 @@ chunks-init c =
       done = [];
       all = all;
       theirs = subst (AllByRecursion (IsFaultOf w.nets)) all (every_fault w.nets);
+      serving = c.in_ok-serving.ensures;
       bench = ap (λ (v : Wiring). v.members) c.in_ok-bench.ensures.board;
       tells = c.new-text.ensures.items;
     }
@@ -33,6 +34,9 @@ tell_chunk-requires-clause-may c = record { ready = c.requires.powers_up.ready; 
 
 pub next_chunk-requires-clause-faults : goal.next_chunk-requires-clause-faults
 next_chunk-requires-clause-faults c = c.chunks.invariant.theirs
+
+pub next_chunk-requires-clause-serving : goal.next_chunk-requires-clause-serving
+next_chunk-requires-clause-serving c = c.chunks.invariant.serving
 
 pub returns-then-is_empty : goal.returns-then-is_empty
 returns-then-is_empty c =
@@ -56,6 +60,7 @@ chunks-preserved c =
       done = i.done ++ fs;
       all = i.all ∙ ap (λ (l : List Fault). i.done ++ l) chunk.next.are ∙ sym (append_assoc i.done fs (left_of c.next_chunk.new.left));
       theirs = chunk.others;
+      serving = i.serving;
       bench = c.in_ok-tell_chunk.ensures.bench;
       tells = subst (λ (told : List _). TellsFaults said program w (i.done ++ fs) told) (sym more.2)
           (tells_join said program w i.done fs c.chunks.text.items more.0 i.tells more.1);

@@ -5,6 +5,7 @@ use Rattle.board_plan.specs.View.{wiring}
 use Rattle.board_faults.specs.declared.kinds.Fault.{Fault}
 use Rattle.board_faults.specs.Faults.{IsFaultOf, faults}
 use Rattle.board_faults.specs.Listing.{left_of}
+use Rattle.play_coverage.specs.Serving.{MayServe}
 use Rattle.play_diagnosis.specs.Benches.{IsBench}
 use Rattle.play_diagnosis.specs.Diagnosis.{TellsFaults}
 use Rattle.play_diagnosis.specs.Reading.{verdict_of}
@@ -18,6 +19,7 @@ invariant-chunks l =
       done : List Fault;
       all : faults w.nets ≡ done ++ left_of l.left;
       theirs : AllByRecursion (IsFaultOf w.nets) (left_of l.left);
+      serving : MayServe (program_of l.program) w l.serving;
       bench : IsBench w l.bench;
       tells : TellsFaults (verdict_of l.said) (program_of l.program) w done l.text.items;
     }
