@@ -146,8 +146,7 @@ pub fn told_at(told: &[Option<Ending>], k: usize) -> Option<Ending>
     }
 }
 
-/// What a program makes of a way of a fault, given how it ends if that is told; nothing where the board with it has no
-/// meaning.
+/// What a program makes of a way of a fault, given how it ends if that is told; nothing where it has no meaning.
 fn verdict_of(
     alloc: Global,
     bench: &mut Bench,
@@ -174,8 +173,10 @@ fn verdict_of(
             program,
             way,
         ),
-        Some(Ending::Pass) => Ok(Some(passed_verdict(alloc, bench, plan, way)?)),
-        Some(ending) => Ok(Some(Verdict::Played(ending))),
+        Some(ending) => match ending {
+            Ending::Pass => Ok(Some(passed_verdict(alloc, bench, plan, way)?)),
+            _ => Ok(Some(Verdict::Played(ending))),
+        },
     }
 }
 
