@@ -35,7 +35,8 @@ messages_of count steps = flat_map (λ t. t.messages) (take count (turns steps))
 -- The wave behind so many turns, which took no time. From there on TCK low lasts 1 ps and TCK high none.
 abbrev pub wave_behind : (count : ℕ) → List Numbered → BoardState → List ℕ
 wave_behind count steps b =
-    wave None (λ command. 1) None (drop count (turns steps)) (after_drawing 0 (messages_of count steps) (begun no_extras b))
+    wave None (λ command. 1) None (drop count (turns steps))
+    (after_drawing 0 (messages_of count steps) (begun no_extras b))
 
 -- the same of a bare device, with what a player of this kind is told of the bits that it wants
 abbrev pub noted_behind : Kind → (count : ℕ) → List Numbered → List ℕ

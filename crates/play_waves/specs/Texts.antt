@@ -16,11 +16,12 @@ use Rattle.play_waves.specs.declared.undrawn.Undrawn.TheVariants as undrawn
 use Rattle.play_drawing.specs.Waves.{wave_file}
 
 -- the file of a text's waves: that of the program that its statements make, with their periods
-pub record IsWavesOf (noted : Bool) (x : Extras) (text : List ℕ) (kind : Kind) (b : BoardState) (file : List ℕ) : Type 0 where
-  pub said : List Said
-  pub spelled : TextSpells text said
-  pub accepted : IsAccepted said
-  pub is : file ≡ wave_file noted x (period_at said) kind (program said) b
+pub record IsWavesOf (noted : Bool) (x : Extras) (text : List ℕ) (kind : Kind) (b : BoardState) (file : List ℕ) : Type 0
+  where
+    pub said : List Said
+    pub spelled : TextSpells text said
+    pub accepted : IsAccepted said
+    pub is : file ≡ wave_file noted x (period_at said) kind (program said) b
 
 -- A text's waves were written, or a front part of them where a write was lost.
 abbrev pub Draws : {W A E : Type 0} → (W → Option (List ℕ)) → (noted : Bool) → Extras → List ℕ → Kind → BoardState
