@@ -7,6 +7,7 @@ pub mod Judging
 pub mod Listing
 pub mod Missed
 pub mod OnePlay
+pub mod Planes
 pub mod Rows
 pub mod Sight
 pub mod Sights

@@ -1,6 +1,6 @@
 //! Faults, and the ways in which each may show.
 
-ghost use Rattle.std.specs.Prelude.{◌≡◌, slice_get};
+ghost use Rattle.std.specs.Prelude.{◌≡◌, length, slice_get};
 ghost use Rattle.board_faults.specs.Faults.{ways, winners};
 
 /// A single fault of the nets of a board. Nets are counted from 0 in the order of the board file, pins in that of their
@@ -57,8 +57,8 @@ pub enum Way {
 }
 
 impl Fault {
-    /// The k-th way in which it may show, counted from 0: of an open joint at 0 and at 1; of a bridge as a wired and, as
-    /// a wired or, where the first net leads and where the second does; of others the one.
+    /// The k-th way in which it may show, counted from 0: of an open joint at 0 and at 1; of a bridge as a wired and,
+    /// as a wired or, where the first net leads and where the second does; of others the one.
     pub fn way(self, k: usize) -> Option<Way>
         ensures { result ≡ slice_get (ways self) k }
     {
@@ -92,6 +92,17 @@ impl Fault {
                 }),
                 None => None,
             },
+        }
+    }
+
+    /// In how many ways it may show.
+    pub fn way_count(self) -> usize
+        ensures { result ≡ length (ways self) }
+    {
+        match self {
+            Fault::Open { .. } => 2,
+            Fault::Pull { .. } | Fault::Stuck { .. } => 1,
+            Fault::Short { .. } => 4,
         }
     }
 }

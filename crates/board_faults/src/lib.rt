@@ -10,6 +10,7 @@ mod kinds;
 mod laws;
 mod listed;
 mod nets;
+mod planes;
 mod sight;
 mod together;
 
@@ -23,8 +24,9 @@ pub use laws::{
     one_run_serves_other_nets, registers_differ_by_what_stays, what_stays_computes,
     whole_scans_leave_nothing,
 };
-pub use listed::Faults;
+pub use listed::{Faults, next_faults, ways_of};
 pub use nets::{joined, nets_with, pull_to, rest_pull, turned};
+pub use planes::{DrivenWords, bridge_words, differing};
 pub use play_direct::{Board, play_opening, play_program, play_step};
 pub use sight::{Sights, bridge_sees, is_invisible, pull_at, sights_of};
 pub use together::{Driven, pulled};

@@ -1,15 +1,17 @@
 //! The faults of a board's nets, one after another.
 
-ghost use Rattle.std.specs.Prelude.{◌≡◌, ◌<◌, ◌+◌, length, slice_get, IfSome};
+ghost use Rattle.std.specs.Prelude.{◌≡◌, ◌<◌, ◌+◌, ◌++◌, flat_map, length, slice_get, IfOk, IfSome, OnOk};
 ghost use Rattle.board_plan.specs.View.{net as planned_net};
-ghost use Rattle.board_faults.specs.Faults.{behind_opens, behind_pull, bridges, faults_of};
+ghost use Rattle.board_faults.specs.Faults.{behind_opens, behind_pull, bridges, faults_of, ways};
+ghost use Rattle.board_faults.specs.Listing.{AreNext, left_of};
 
-use crate::kinds::Fault;
+use crate::kinds::{Fault, Way};
 use board_plan::PlannedNet;
 use pin_nets::Pull;
+use std::alloc::{AllocError, Global};
 
-/// The faults of a board's nets that are left, net after net: each of its pins' joints open, its pull, stuck at 0 and at
-/// 1, and its bridges with later nets. It takes no memory.
+/// The faults of a board's nets that are left, net after net: each of its pins' joints open, its pull, stuck at 0 and
+/// at 1, and its bridges with later nets. It takes no memory.
 #[derive(Drop)]
 pub struct Faults<'a> {
     nets: &'a [PlannedNet],
@@ -113,4 +115,46 @@ fn bridge_at(count: usize, net: usize, at: usize) -> Option<Fault>
     } else {
         None
     }
+}
+
+/// The next of the faults that are left, so many or all of them; none where none is left. Refused where memory runs
+/// out.
+pub fn next_faults(
+    alloc: Global,
+    left: &mut Faults<'_>,
+    most: usize,
+) -> Result<Vec<Fault>, AllocError>
+    requires { 0 < most }
+    ensures { IfOk result (λ v. AreNext (left_of left.old) v.items (left_of left.new)) }
+{
+    let mut faults = Vec::new(alloc);
+    'faults: while faults.len() < most {
+        let Some(fault) = left.next() else {
+            return Ok(faults);
+        };
+        faults.push(fault)?;
+    }
+    Ok(faults)
+}
+
+/// The ways in which faults may show, one fault after another. Refused where memory runs out.
+pub fn ways_of(alloc: Global, faults: &[Fault]) -> Result<Vec<Way>, AllocError>
+    ensures { IfOk result (λ v. v.items ≡ flat_map ways faults.now) }
+{
+    let mut all = Vec::new(alloc);
+    for fault in faults {
+        put_ways(*fault, &mut all)?;
+    }
+    Ok(all)
+}
+
+fn put_ways(fault: Fault, all: &mut Vec<Way>) -> Result<(), AllocError>
+    ensures { OnOk result (all.new.items ≡ all.old.items ++ ways fault) }
+{
+    let mut k = 0;
+    'ways: while let Some(way) = fault.way(k) {
+        all.push(way)?;
+        k += 1;
+    }
+    Ok(())
 }

@@ -1,7 +1,7 @@
 //! Which ways of faults can show at all: by what pins can drive, whatever a program does, and which of them are read.
 
-ghost use Rattle.std.specs.Prelude.{◌≡◌, ◌<◌, ◌↔◌, ◌&&◌, ◌||◌, ◌∷◌, [], drop, map, length, take, IfOk, IsTrue, List, Some};
-ghost use Rattle.std.specs.Prelude.{slice_index_or};
+ghost use Rattle.std.specs.Prelude.{◌≡◌, ◌<◌, ◌↔◌, ◌&&◌, ◌||◌, ◌∷◌, [], drop, map, length, take, IfOk, IsTrue, List};
+ghost use Rattle.std.specs.Prelude.{slice_index_or, Some};
 ghost use Rattle.std.specs.List.{list_any, remove};
 ghost use Rattle.boundary.specs.Masks as masks;
 ghost use Rattle.board_plan.specs.Planned as planned;

@@ -2,11 +2,6 @@
 use Rattle.std.proofs.Common.{◌≡◌, ℕ, zero, suc, Bool, true, false, ◌&&◌, ◌||◌, List, [], ◌∷◌, length, drop, map, Option, Some, None, if◌then◌else◌, refl, sym, ap, ap₂, ◌∙◌}
 use Rattle.std.specs.Prelude.{⊤}
 use Rattle.pin_nets.specs.Wired.{Net}
-use Rattle.board_plan.specs.Planned.{all_pins}
-use Rattle.play_model.specs.DirectPlay.{opened_state}
-use Rattle.board_faults.specs.Made.{board_of}
-use Rattle.fault_events.specs.Events.{events}
-use Rattle.fault_events.proofs.NotedEndings.{noted_faults}
 use Rattle.play_model.specs.declared.ending.Ending.{Ending}
 use Rattle.play_model.specs.declared.ending.Ending.TheVariants.{Fail}
 use Rattle.board_faults.specs.declared.kinds.Way.{Way}
@@ -15,14 +10,14 @@ use Rattle.board_faults.specs.Together.{first_of, pull_differs, second_of, stuck
 use Rattle.fault_events.specs.declared.differing.Pulls.{Pulls}
 use Rattle.fault_events.specs.declared.notes.Note.{Note}
 use Rattle.fault_events.specs.declared.notes.Spot.{Spot}
-use Rattle.fault_events.specs.Captures.{Noted, noted_at}
+use Rattle.fault_events.specs.Captures.{Noted}
 use Rattle.fault_events.specs.Endings.{all_of, ending_noted, first_note, notes_of, second_note}
-use Rattle.fault_events.specs.Nets.{NetsTellOfFaults, ending_by_nets, ending_of_nets, nets_noted, note_at, with_nets_noted}
+use Rattle.fault_events.specs.Nets.{ending_by_nets, nets_noted, note_at, with_nets_noted}
 use Rattle.fault_events.specs.Notes.{way_first, way_stays}
 use Rattle.fault_events.specs.Pulls.{first_by, pulls_of, stays_by}
 
 -- a way of a fault of whole nets: any but an open joint
-abbrev IsOfNets : Way → Type 0
+abbrev pub IsOfNets : Way → Type 0
 IsOfNets (way.Open net pin bit) = ⊥
 IsOfNets its_way = ⊤
 
@@ -108,19 +103,3 @@ by_nets nets its_way of (n ∷ ns) =
     ∙ ap (λ (r : Option Ending). told n.command (way_first nets its_way (first_note nets its_way n.notes) (second_note nets its_way n.notes))
     (if way_stays nets its_way (first_note nets its_way n.notes) (second_note nets its_way n.notes) then None else r)) (by_nets nets its_way of ns)
     ∙ sym (one-noted nets its_way n ns)
-
-none-some : {A : Type 0} (b : Ending) → None ≡ Some b → A
-none-some b e = absurd (cc)
-
--- of ways that are told
-of-nets : (nets : List Net) (its_way : Way) (ns : List Noted) (ending : Ending)
-    → ending_of_nets nets its_way (map (with_nets_noted nets) ns) ≡ Some ending → ending_noted nets its_way ns ≡ Some ending
-of-nets nets (way.Open net pin bit) ns ending e = none-some ending e
-of-nets nets (way.Pull net) ns ending e = sym (by_nets nets (way.Pull net) tt ns) ∙ e
-of-nets nets (way.Stuck net bit) ns ending e = sym (by_nets nets (way.Stuck net bit) tt ns) ∙ e
-of-nets nets (way.Short first second winner) ns ending e = sym (by_nets nets (way.Short first second winner) tt ns) ∙ e
-
-pub nets_tell : NetsTellOfFaults
-nets_tell program legal w sound may none passes its_way its ending e =
-    noted_faults program legal w sound may none passes its_way its ending
-    (of-nets w.nets its_way (map (noted_at (all_pins w.nets)) (events program.steps (opened_state (board_of w)))) ending e)

@@ -1,29 +1,19 @@
--- What one play tells of every way in which a fault may show; and the notes of one net, by where its pins begin.
+-- How a program ends by a block of captures; and the notes of one net, by where its pins begin.
 use Rattle.std.proofs.Common.{◌≡◌, ◌≤◌, ◌+◌, ℕ, zero, suc, List, [], ◌∷◌, ◌++◌, length, map, take, drop, get_or, slice_get, Some, refl, sym, ap, ◌∙◌, arith, drop-drop}
 use Rattle.pin_nets.specs.Wired.{Net}
-use Rattle.svf_programs.specs.Legal.{IsLegalProgram}
-use Rattle.svf_programs.specs.Steps.{Program}
-use Rattle.board_plan.specs.Planned.{Wiring}
-use Rattle.board_model.specs.Nets.{strings}
-use Rattle.board_model.specs.Planned.{members_of}
-use Rattle.play_model.specs.declared.ending.Ending.{Ending}
-use Rattle.play_model.specs.declared.ending.Ending.TheVariants.{Pass}
-use Rattle.play_model.specs.Play.{play}
 use Rattle.board_faults.specs.declared.kinds.Way.{Way}
-use Rattle.board_faults.specs.declared.kinds.Way.TheVariants as way
-use Rattle.board_faults.specs.Faults.{IsWayOf}
-use Rattle.board_faults.specs.Judging.{ending_with}
-use Rattle.board_faults.specs.Made.{IsSoundWiring, board_of}
-use Rattle.board_faults.specs.Sight.{MayHaveFaults}
+use Rattle.board_faults.specs.Together.{first_of, second_of}
+use Rattle.fault_events.specs.declared.differing.Pulls.{Pulls}
+use Rattle.fault_events.specs.declared.nets.NetCapture.{NetCapture}
 use Rattle.fault_events.specs.declared.notes.Note.{Note}
-use Rattle.fault_events.specs.declared.ways.Told.{Told}
+use Rattle.fault_events.specs.declared.ways.Block.{Block}
+use Rattle.fault_events.specs.Blocks.{IsBlock, noted_in, starts_from}
 use Rattle.fault_events.specs.Endings.{all_of, all_with, both, ending_noted, notes_of}
 use Rattle.fault_events.specs.Marks.{nothing_noted}
 use Rattle.fault_events.specs.Nets as of_nets
-use Rattle.fault_events.specs.Nets.{ending_of_nets, with_nets_noted}
-use Rattle.fault_events.specs.Told.{IsTold, OnePlayTellsOfFaults, starts_from}
-use Rattle.fault_events.proofs.ByNets.{nets_tell}
-use Rattle.fault_events.proofs.NotedEndings.{noted_faults}
+use Rattle.fault_events.specs.Nets.{ending_by_nets}
+use Rattle.fault_events.specs.Pulls.{pulls_of}
+use Rattle.fault_events.proofs.ByNets.{IsOfNets, by_nets}
 
 -- ---- notes together
 
@@ -57,23 +47,13 @@ notes_past [] k notes h = refl
 notes_past (n ∷ nets) zero notes h = absurd (omega (arith, h))
 notes_past (n ∷ nets) (suc k) notes h = notes_past nets k (drop (length n.pins) notes) (omega (arith, h))
 
--- ---- every way
+-- ---- by a block
 
-module _ (program : Program) (legal : IsLegalProgram program.steps) (w : Wiring) (sound : IsSoundWiring w) (may : MayHaveFaults w)
-    (none : strings (members_of w) ≡ 0) (passes : (play program (board_of w)).ending ≡ Pass) (t : Told) (told : IsTold program w t) where
-  by-nets : (its_way : Way) → IsWayOf w.nets its_way → (ending : Ending) → ending_of_nets w.nets its_way (map of_nets.seen t.nets.items) ≡ Some ending
-      → ending_with program w its_way ≡ ending
-  by-nets its_way its ending e =
-      nets_tell program legal w sound may none passes its_way its ending
-      (sym (ap (ending_of_nets w.nets its_way) (told.nets ∙ ap (map (with_nets_noted w.nets)) told.pins)) ∙ e)
-
-pub told_faults : OnePlayTellsOfFaults
-told_faults program legal w sound may none passes t told (way.Open net pin bit) its ending e =
-    noted_faults program legal w sound may none passes (way.Open net pin bit) its ending
-    (sym (ap (ending_noted w.nets (way.Open net pin bit)) told.pins) ∙ e)
-told_faults program legal w sound may none passes t told (way.Pull net) its ending e =
-    by-nets program legal w sound may none passes t told (way.Pull net) its ending e
-told_faults program legal w sound may none passes t told (way.Stuck net bit) its ending e =
-    by-nets program legal w sound may none passes t told (way.Stuck net bit) its ending e
-told_faults program legal w sound may none passes t told (way.Short first second winner) its ending e =
-    by-nets program legal w sound may none passes t told (way.Short first second winner) its ending e
+pub block_ending : (nets : List Net) (b : Block) → IsBlock nets b → (its_way : Way) → IsOfNets its_way
+    → (p : Pulls) → p ≡ pulls_of nets its_way → (ns : List NetCapture) → ns ≡ b.nets.items
+    → ending_by_nets its_way p (first_of its_way) (second_of its_way) (map of_nets.seen ns) ≡ ending_noted nets its_way (noted_in b)
+block_ending nets b is its_way of p same ns at =
+    ap (λ (q : Pulls). ending_by_nets its_way q (first_of its_way) (second_of its_way) (map of_nets.seen ns)) same
+    ∙ ap (λ (l : List NetCapture). ending_by_nets its_way (pulls_of nets its_way) (first_of its_way) (second_of its_way) (map of_nets.seen l)) at
+    ∙ ap (ending_by_nets its_way (pulls_of nets its_way) (first_of its_way) (second_of its_way)) is.by_net
+    ∙ by_nets nets its_way of (noted_in b)

@@ -1,6 +1,9 @@
 -- Boards at rest while their captures are noted.
-use Rattle.std.proofs.Common.{◌≡◌, ◌<◌, ◌+◌, ℕ, zero, suc, List, length, drop, get_or, OnOk, Result, Ok, Err, arith, [], ◌∷◌, ◌++◌, map, refl, sym, ap, ◌∙◌, append_assoc}
+use Rattle.std.proofs.Common.{◌≡◌, ◌<◌, ◌+◌, ℕ, zero, suc, List, length, drop, get_or, IfOk, OnOk, Result, Ok, Err, arith, [], ◌∷◌, ◌++◌, map, refl, sym, ap, ◌∙◌, append_assoc}
 use Rattle.std.proofs.lemmas.List.{append-nil, map-append}
+use Rattle.svf_programs.specs.declared.program.Steps.{Steps}
+use Rattle.svf_programs.specs.Left.{left}
+use Rattle.svf_programs.specs.Steps.{Numbered}
 use Rattle.pin_nets.specs.declared.Pin.{Pin}
 use Rattle.board_plan.specs.declared.plan.PlannedDevice.{PlannedDevice}
 use Rattle.board_model.specs.Cells.{Member}
@@ -9,8 +12,9 @@ use Rattle.board_model.specs.Resting.{IsAtRest}
 use Rattle.board_model.specs.Whole.{AtRest}
 use Rattle.play_model.proofs.AfterOpening.{standing-members}
 use Rattle.fault_events.specs.declared.captures.Capture.{Capture}
+use Rattle.fault_events.specs.declared.captures.Captures.{Captures}
 use Rattle.fault_events.specs.declared.tables.PinNumbers.{PinNumbers}
-use Rattle.fault_events.specs.Captures.{Fits, Goes, Noted, noted_at, seen}
+use Rattle.fault_events.specs.Captures.{AreLeft, Begins, Fits, Goes, GoesOn, Noted, noted_at, noted_by, seen}
 use Rattle.fault_events.specs.Events.{Event}
 use Rattle.fault_events.specs.Numbers.{AllFormed}
 use Rattle.fault_events.specs.Parts.{AllPlannedFormed, planned_parts}
@@ -48,6 +52,32 @@ goes_both pins es fs m n b c old mid new one more = record {
       ∙ append_assoc (map seen old) (map (noted_at pins) es) (map (noted_at pins) fs)
       ∙ ap (λ (l : List Noted). map seen old ++ l) (sym (map-append (noted_at pins) es fs));
 }
+
+-- a block of what is left
+pub begins : (cs : List Noted) (pins : List Pin) (old : Captures) (are : AreLeft cs pins old) (steps : Steps) (board : BoardState) (block : List Capture)
+    → GoesOn old.numbers.pins.items (left old.steps) are.way.state (left steps) board block
+    → Begins cs pins old block (record { devices = old.devices; numbers = old.numbers; steps = steps; board = board })
+begins cs pins old are steps board block goes = record {
+  rest = noted_by pins (left steps) goes.state;
+  are = are.noted ∙ ap (λ (ps : List Pin). noted_by ps (left old.steps) are.way.state) (sym are.numbered) ∙ goes.noted
+      ∙ ap (λ (ps : List Pin). map seen block ++ noted_by ps (left steps) goes.state) are.numbered;
+  leaves = record {
+    way = record {
+      state = goes.state;
+      rests = goes.rests;
+      within = goes.within;
+      fits = fits_state are.way.state goes.state goes.kept old.devices.now old.numbers are.way.fits;
+    };
+    numbered = are.numbered;
+    noted = refl;
+  };
+  over = λ none. ap (λ (l : List Numbered). noted_by pins l goes.state) (goes.over none);
+  fewer = goes.fewer;
+}
+
+pub if_ok_then : {T E : Type 0} (r : Result T E) (P Q : T → Type 0) → ((t : T) → P t → Q t) → IfOk r P → IfOk r Q
+if_ok_then (Ok t) P Q f p = f t p
+if_ok_then (Err e) P Q f p = tt
 
 pub on_ok_then : {T E : Type 0} (r : Result T E) (P Q : Type 0) → (P → Q) → OnOk r P → OnOk r Q
 on_ok_then (Ok t) P Q f p = f p

@@ -5,12 +5,11 @@ use Rattle.std.specs.List.{remove}
 use Rattle.svf_programs.specs.Legal.{IsLegalProgram}
 use Rattle.svf_programs.specs.Steps.{Program}
 use Rattle.pin_nets.specs.Wired.{Net}
-use Rattle.board_plan.specs.Planned.{Wiring, all_pins}
+use Rattle.board_plan.specs.Planned.{Wiring}
 use Rattle.board_model.specs.Nets.{strings}
 use Rattle.board_model.specs.Planned.{members_of}
 use Rattle.play_model.specs.declared.ending.Ending.{Ending}
 use Rattle.play_model.specs.declared.ending.Ending.TheVariants.{Pass, Fail, Lost, BadAnswer}
-use Rattle.play_model.specs.DirectPlay.{opened_state}
 use Rattle.play_model.specs.Play.{play}
 use Rattle.board_faults.specs.declared.kinds.Way.{Way}
 use Rattle.board_faults.specs.declared.kinds.Way.TheVariants as way
@@ -20,8 +19,7 @@ use Rattle.board_faults.specs.Made.{IsSoundWiring, board_of}
 use Rattle.board_faults.specs.Sight.{MayHaveFaults}
 use Rattle.board_faults.specs.Together.{first_of, together}
 use Rattle.fault_events.specs.declared.notes.Note.{Note}
-use Rattle.fault_events.specs.Captures.{Noted, noted_at}
-use Rattle.fault_events.specs.Events.{events}
+use Rattle.fault_events.specs.Captures.{Noted, captures}
 use Rattle.fault_events.specs.Marks.{nothing_noted}
 use Rattle.fault_events.specs.Notes.{earlier, way_first, way_stays}
 
@@ -89,6 +87,5 @@ abbrev pub NotesTellOfFaults : Type 0
 NotesTellOfFaults = (program : Program) → IsLegalProgram program.steps → (w : Wiring) → IsSoundWiring w
     → MayHaveFaults w → strings (members_of w) ≡ 0 → (play program (board_of w)).ending ≡ Pass
     → (its_way : Way) → IsWayOf w.nets its_way → (ending : Ending)
-    → ending_noted w.nets its_way
-    (map (noted_at (all_pins w.nets)) (events program.steps (opened_state (board_of w)))) ≡ Some ending
+    → ending_noted w.nets its_way (captures program w) ≡ Some ending
     → ending_with program w its_way ≡ ending

@@ -1,3 +1,4 @@
+pub mod Blocks
 pub mod Captures
 pub mod Drives
 pub mod Endings
@@ -11,4 +12,3 @@ pub mod Pulls
 pub mod Rows
 pub mod Sources
 pub mod Tables
-pub mod Told

@@ -4,9 +4,10 @@ ghost use Rattle.std.specs.Prelude.{◌≡◌, ◌++◌, ◌∷◌, [], map, IfO
 ghost use Rattle.scan_vectors.specs.Held.{bits};
 ghost use Rattle.scan_vectors.specs.Vector.{tdis};
 ghost use Rattle.jt_tap.specs.Controller as controller;
+ghost use Rattle.svf_programs.specs.Left.{left};
 ghost use Rattle.svf_programs.specs.Seen as kept;
 ghost use Rattle.svf_programs.specs.Sizes.{program_of};
-ghost use Rattle.svf_programs.specs.Sound.{IsWithin};
+ghost use Rattle.svf_programs.specs.Sound.{AllWithin, IsWithin};
 ghost use Rattle.board_faults.specs.Made.{PowersUp, board_of};
 ghost use Rattle.board_faults.specs.Resting.{IsResting};
 ghost use Rattle.board_model.specs.Chain.{members};
@@ -15,9 +16,8 @@ ghost use Rattle.board_model.specs.Whole as whole;
 ghost use Rattle.board_model.specs.Whole.{AtRest};
 ghost use Rattle.board_plan.specs.Planned.{all_pins};
 ghost use Rattle.board_plan.specs.View.{wiring};
-ghost use Rattle.play_model.specs.DirectPlay.{opened_state};
 ghost use Rattle.play_model.specs.Meaning as meaning;
-ghost use Rattle.fault_events.specs.Captures.{Fits, Goes, noted_at, seen};
+ghost use Rattle.fault_events.specs.Captures.{AreLeft, Fits, Goes, GoesOn, captures, noted_at, seen};
 ghost use Rattle.fault_events.specs.Events as events;
 
 use crate::notes::Note;
@@ -28,7 +28,10 @@ use board_plan::{Plan, PlannedDevice};
 use jt_tap::{Column, State, Work};
 use scan_vectors::{Failures, Part3, Vector, join};
 use std::alloc::{AllocError, Global};
-use svf_programs::{Action, Program, Step};
+use svf_programs::{Action, Program, Step, Steps};
+
+/// So many captures are noted at a time.
+const BLOCK: usize = 64;
 
 /// A capture of the data column: the number of its statement, counted from 1, and what is noted of each pin of the
 /// board's nets before it, net after net.
@@ -38,42 +41,48 @@ pub struct Capture {
     pub pins: Vec<Note>,
 }
 
+/// Where captures are noted: on a board of these devices, its pins by these numbers, at the statement with this number.
+#[derive(Drop, Clone, Copy)]
+struct At<'a> {
+    alloc: Global,
+    devices: &'a [PlannedDevice],
+    numbers: &'a PinNumbers,
+    command: usize,
+}
+
+/// Captures, one after another.
+type List = Vec<Capture>;
+
 /// Notes a capture of a board at rest behind those listed. Refused where memory runs out.
 fn note_capture(
-    alloc: Global,
-    devices: &[PlannedDevice],
-    numbers: &PinNumbers,
-    command: usize,
+    at: At<'_>,
     vector: &Vector,
     board: &Board,
-    list: &mut Vec<Capture>,
+    list: &mut List,
 ) -> Result<(), AllocError>
-    requires { Fits (members board.now.chips) devices.now numbers.now }
+    requires { Fits (members board.now.chips) at.devices.now at.numbers.now }
     ensures { (m : AtRest) → IsAtRest board.now m → OnOk result (map seen list.new.items ≡ map seen list.old.items
-        ++ noted_at numbers.now.pins.items (record { command = command; board = m; vector = bits vector.now }) ∷ []) }
+        ++ noted_at at.entry.numbers.now.pins.items
+        (record { command = at.entry.command; board = m; vector = bits vector.now }) ∷ []) }
 {
-    let pins = note_pins(alloc, board.chain(), devices, numbers, vector)?;
-    list.push(Capture { command, pins })?;
+    let pins = note_pins(at.alloc, board.chain(), at.devices, at.numbers, vector)?;
+    list.push(Capture {
+        command: at.command,
+        pins,
+    })?;
     Ok(())
 }
 
 /// A board at rest arrives in a stable state; a capture of the data column is noted.
-fn arrive(
-    alloc: Global,
-    devices: &[PlannedDevice],
-    numbers: &PinNumbers,
-    command: usize,
-    state: State,
-    board: &mut Board,
-    list: &mut Vec<Capture>,
-) -> Result<(), AllocError>
+fn arrive(at: At<'_>, state: State, board: &mut Board, list: &mut List) -> Result<(), AllocError>
     requires rests { IsResting board.old }
-    requires fits { Fits (members board.old.chips) devices.now numbers.now }
-    ensures { (m : AtRest) → IsAtRest board.old m → OnOk result (Goes numbers.now.pins.items
-        (events.events_arriving command state m) (whole.arrive state m) board.new list.old.items list.new.items) }
+    requires fits { Fits (members board.old.chips) at.devices.now at.numbers.now }
+    ensures { (m : AtRest) → IsAtRest board.old m → OnOk result (Goes at.entry.numbers.now.pins.items
+        (events.events_arriving at.entry.command state m) (whole.arrive state m) board.new list.old.items
+        list.new.items) }
 {
     if let State::DrPause = state {
-        note_capture(alloc, devices, numbers, command, &no_vector(), board, list)?;
+        note_capture(at, &no_vector(), board, list)?;
     }
     board.arrive(state);
     Ok(())
@@ -93,45 +102,34 @@ fn no_vector() -> Vector<'static>
 }
 
 /// A board at rest goes to a stable state by the default path; a capture of the data column is noted.
-fn go(
-    alloc: Global,
-    devices: &[PlannedDevice],
-    numbers: &PinNumbers,
-    command: usize,
-    state: State,
-    board: &mut Board,
-    list: &mut Vec<Capture>,
-) -> Result<(), AllocError>
+fn go(at: At<'_>, state: State, board: &mut Board, list: &mut List) -> Result<(), AllocError>
     requires rests { IsResting board.old }
-    requires fits { Fits (members board.old.chips) devices.now numbers.now }
-    ensures { (m : AtRest) → IsAtRest board.old m → OnOk result (Goes numbers.now.pins.items
-        (events.events_arriving command state (whole.settle m)) (meaning.move_to state m) board.new list.old.items
-        list.new.items) }
+    requires fits { Fits (members board.old.chips) at.devices.now at.numbers.now }
+    ensures { (m : AtRest) → IsAtRest board.old m → OnOk result (Goes at.entry.numbers.now.pins.items
+        (events.events_arriving at.entry.command state (whole.settle m)) (meaning.move_to state m) board.new
+        list.old.items list.new.items) }
 {
     board.settle();
-    arrive(alloc, devices, numbers, command, state, board, list)
+    arrive(at, state, board, list)
 }
 
 /// The same, unless the board rests there.
 fn go_unless_there(
-    alloc: Global,
-    devices: &[PlannedDevice],
-    numbers: &PinNumbers,
-    command: usize,
+    at: At<'_>,
     state: State,
     board: &mut Board,
-    list: &mut Vec<Capture>,
+    list: &mut List,
 ) -> Result<(), AllocError>
     requires rests { IsResting board.old }
-    requires fits { Fits (members board.old.chips) devices.now numbers.now }
-    ensures { (m : AtRest) → IsAtRest board.old m → OnOk result (Goes numbers.now.pins.items
-        (events.events_moving command state m) (meaning.move_unless_there state m) board.new list.old.items
+    requires fits { Fits (members board.old.chips) at.devices.now at.numbers.now }
+    ensures { (m : AtRest) → IsAtRest board.old m → OnOk result (Goes at.entry.numbers.now.pins.items
+        (events.events_moving at.entry.command state m) (meaning.move_unless_there state m) board.new list.old.items
         list.new.items) }
 {
     if is_at(board.place(), state) {
         return Ok(());
     }
-    go(alloc, devices, numbers, command, state, board, list)
+    go(at, state, board, list)
 }
 
 /// Whether two states are one.
@@ -142,69 +140,51 @@ fn is_at(here: State, state: State) -> bool
 }
 
 /// A board at rest takes one named state of a stated path; a capture of the data column is noted.
-fn pass(
-    alloc: Global,
-    devices: &[PlannedDevice],
-    numbers: &PinNumbers,
-    command: usize,
-    state: State,
-    board: &mut Board,
-    list: &mut Vec<Capture>,
-) -> Result<(), AllocError>
+fn pass(at: At<'_>, state: State, board: &mut Board, list: &mut List) -> Result<(), AllocError>
     requires rests { IsResting board.old }
-    requires fits { Fits (members board.old.chips) devices.now numbers.now }
-    ensures { (m : AtRest) → IsAtRest board.old m → OnOk result (Goes numbers.now.pins.items
-        (events.events_passing command (controller.work state) m)
+    requires fits { Fits (members board.old.chips) at.devices.now at.numbers.now }
+    ensures { (m : AtRest) → IsAtRest board.old m → OnOk result (Goes at.entry.numbers.now.pins.items
+        (events.events_passing at.entry.command (controller.work state) m)
         (record (whole.pass (controller.work state) m) { place = state }) board.new list.old.items list.new.items) }
 {
     if let Work::Captures(Column::Dr) = state.work() {
-        note_capture(alloc, devices, numbers, command, &no_vector(), board, list)?;
+        note_capture(at, &no_vector(), board, list)?;
     }
     board.along(&[state]);
     Ok(())
 }
 
 /// A board at rest goes along a stated path; captures of the data column are noted.
-fn along(
-    alloc: Global,
-    devices: &[PlannedDevice],
-    numbers: &PinNumbers,
-    command: usize,
-    path: &[State],
-    board: &mut Board,
-    list: &mut Vec<Capture>,
-) -> Result<(), AllocError>
+fn along(at: At<'_>, path: &[State], board: &mut Board, list: &mut List) -> Result<(), AllocError>
     requires rests { IsResting board.old }
-    requires fits { Fits (members board.old.chips) devices.now numbers.now }
-    ensures { (m : AtRest) → IsAtRest board.old m → OnOk result (Goes numbers.now.pins.items
-        (events.events_along command path.now m) (whole.along path.now m) board.new list.old.items list.new.items) }
+    requires fits { Fits (members board.old.chips) at.devices.now at.numbers.now }
+    ensures { (m : AtRest) → IsAtRest board.old m → OnOk result (Goes at.entry.numbers.now.pins.items
+        (events.events_along at.entry.command path.now m) (whole.along path.now m) board.new list.old.items
+        list.new.items) }
 {
     for state in path {
-        pass(alloc, devices, numbers, command, *state, board, list)?;
+        pass(at, *state, board, list)?;
     }
     Ok(())
 }
 
 /// The registers of a board at rest capture and shift; a capture of the data column is noted.
 fn capture_scan(
-    alloc: Global,
-    devices: &[PlannedDevice],
-    numbers: &PinNumbers,
-    command: usize,
+    at: At<'_>,
     column: Column,
     vector: &Vector,
     board: &mut Board,
-    list: &mut Vec<Capture>,
+    list: &mut List,
 ) -> Result<(), AllocError>
     requires rests { IsResting board.old }
-    requires fits { Fits (members board.old.chips) devices.now numbers.now }
-    ensures { (m : AtRest) → IsAtRest board.old m → OnOk result (Goes numbers.now.pins.items
-        (events.events_capturing command column (bits vector.now) m)
+    requires fits { Fits (members board.old.chips) at.devices.now at.numbers.now }
+    ensures { (m : AtRest) → IsAtRest board.old m → OnOk result (Goes at.entry.numbers.now.pins.items
+        (events.events_capturing at.entry.command column (bits vector.now) m)
         (whole.shift column (tdis (bits vector.now)) (whole.capture column m)) board.new list.old.items
         list.new.items) }
 {
     if let Column::Dr = column {
-        note_capture(alloc, devices, numbers, command, vector, board, list)?;
+        note_capture(at, vector, board, list)?;
     }
     board.capture(column);
     board.shift(column, vector);
@@ -213,27 +193,24 @@ fn capture_scan(
 
 /// A scan of a board at rest ends, its bits shifted; a capture of the data column is noted.
 fn end(
-    alloc: Global,
-    devices: &[PlannedDevice],
-    numbers: &PinNumbers,
-    command: usize,
+    at: At<'_>,
     column: Column,
     state: State,
     board: &mut Board,
-    list: &mut Vec<Capture>,
+    list: &mut List,
 ) -> Result<(), AllocError>
     requires rests { IsResting board.old }
-    requires fits { Fits (members board.old.chips) devices.now numbers.now }
-    ensures { (m : AtRest) → IsAtRest board.old m → OnOk result (Goes numbers.now.pins.items
-        (events.events_ending command column state m) (meaning.scan_end column state m) board.new list.old.items
-        list.new.items) }
+    requires fits { Fits (members board.old.chips) at.devices.now at.numbers.now }
+    ensures { (m : AtRest) → IsAtRest board.old m → OnOk result (Goes at.entry.numbers.now.pins.items
+        (events.events_ending at.entry.command column state m) (meaning.scan_end column state m) board.new
+        list.old.items list.new.items) }
 {
     if is_at(state, pause(column)) {
         board.stand(state);
         return Ok(());
     }
     board.update(column);
-    arrive(alloc, devices, numbers, command, state, board, list)
+    arrive(at, state, board, list)
 }
 
 /// The pause of a column.
@@ -248,63 +225,55 @@ fn pause(column: Column) -> State
 
 /// Scans a whole vector, from rest to rest, as a play does; captures of the data column are noted.
 fn scan(
-    alloc: Global,
-    devices: &[PlannedDevice],
-    numbers: &PinNumbers,
-    command: usize,
+    at: At<'_>,
     column: Column,
     vector: &Vector,
     state: State,
     board: &mut Board,
-    list: &mut Vec<Capture>,
+    list: &mut List,
 ) -> Result<(), AllocError>
     requires rests { IsResting board.old }
-    requires fits { Fits (members board.old.chips) devices.now numbers.now }
-    ensures { (m : AtRest) → IsAtRest board.old m → OnOk result (Goes numbers.now.pins.items
-        (events.events_scanning command column (bits vector.now) state (whole.settle m))
+    requires fits { Fits (members board.old.chips) at.devices.now at.numbers.now }
+    ensures { (m : AtRest) → IsAtRest board.old m → OnOk result (Goes at.entry.numbers.now.pins.items
+        (events.events_scanning at.entry.command column (bits vector.now) state (whole.settle m))
         (meaning.scan_end column state
         (whole.shift column (tdis (bits vector.now)) (whole.capture column (whole.settle m)))) board.new
         list.old.items list.new.items) }
 {
     board.settle();
-    capture_scan(
-        alloc, devices, numbers, command, column, vector, board, list,
-    )?;
-    end(alloc, devices, numbers, command, column, state, board, list)
+    capture_scan(at, column, vector, board, list)?;
+    end(at, column, state, board, list)
 }
 
 /// Runs from a stable state to another, as a play does; captures of the data column are noted.
 fn run(
-    alloc: Global,
-    devices: &[PlannedDevice],
-    numbers: &PinNumbers,
-    command: usize,
+    at: At<'_>,
     first: State,
     last: State,
     board: &mut Board,
-    list: &mut Vec<Capture>,
+    list: &mut List,
 ) -> Result<(), AllocError>
     requires rests { IsResting board.old }
-    requires fits { Fits (members board.old.chips) devices.now numbers.now }
-    ensures { (m : AtRest) → IsAtRest board.old m → OnOk result (Goes numbers.now.pins.items
-        (events.events_moving command first m
-        ++ events.events_moving command last (meaning.move_unless_there first m))
+    requires fits { Fits (members board.old.chips) at.devices.now at.numbers.now }
+    ensures { (m : AtRest) → IsAtRest board.old m → OnOk result (Goes at.entry.numbers.now.pins.items
+        (events.events_moving at.entry.command first m
+        ++ events.events_moving at.entry.command last (meaning.move_unless_there first m))
         (meaning.move_unless_there last (meaning.move_unless_there first m)) board.new list.old.items
         list.new.items) }
 {
-    go_unless_there(alloc, devices, numbers, command, first, board, list)?;
-    go_unless_there(alloc, devices, numbers, command, last, board, list)
+    go_unless_there(at, first, board, list)?;
+    go_unless_there(at, last, board, list)
 }
 
 /// Plays a step on a board at rest (asked), as a play does, and notes the captures of the data column behind those
 /// listed. Refused where memory runs out.
-pub(crate) fn note_step(
+fn note_step(
     alloc: Global,
     devices: &[PlannedDevice],
     numbers: &PinNumbers,
     step: &Step<'_>,
     board: &mut Board,
-    list: &mut Vec<Capture>,
+    list: &mut List,
 ) -> Result<(), AllocError>
     requires rests { IsResting board.old }
     requires fits { Fits (members board.old.chips) devices.now numbers.now }
@@ -313,22 +282,25 @@ pub(crate) fn note_step(
         (events.events_of_step step.now.number (kept.step step.now.what) m)
         (meaning.after_step (kept.step step.now.what) m) board.new list.old.items list.new.items) }
 {
-    let command = step.number;
+    let at = At {
+        alloc,
+        devices,
+        numbers,
+        command: step.number,
+    };
     match step.what {
         Action::Scan {
             column,
             vector,
             end,
-        } => scan(
-            alloc, devices, numbers, command, column, &vector, end, board, list,
-        ),
-        Action::Go(state) => go(alloc, devices, numbers, command, state, board, list),
-        Action::Path(path) => along(alloc, devices, numbers, command, path, board, list),
+        } => scan(at, column, &vector, end, board, list),
+        Action::Go(state) => go(at, state, board, list),
+        Action::Path(path) => along(at, path, board, list),
         Action::Run {
             run: first,
             end,
             ..
-        } => { run(alloc, devices, numbers, command, first, end, board, list) }
+        } => { run(at, first, end, board, list) }
         Action::Trst(_) => {
             drive_trst(step, board);
             Ok(())
@@ -347,44 +319,86 @@ fn drive_trst(step: &Step<'_>, board: &mut Board)
     play_step(step, board, &mut failures);
 }
 
-/// Plays a program on a board to its end, whatever fails, and notes the captures of the data column. Refused where
-/// memory runs out.
-fn note_program(
+/// Plays steps on a board at rest (asked), whatever fails, until 64 captures of the data column are noted or no step is
+/// left. Those of a step stay together. Refused where memory runs out.
+fn note_steps(
     alloc: Global,
     devices: &[PlannedDevice],
     numbers: &PinNumbers,
-    program: &Program,
+    steps: &mut Steps<'_>,
     board: &mut Board,
 ) -> Result<Vec<Capture>, AllocError>
-    requires { Fits (opened_state board.old).members devices.now numbers.now }
-    ensures { IfOk result (λ v. map seen v.items ≡ map (noted_at numbers.now.pins.items)
-        (events.events (program_of program.now).steps (opened_state board.old))) }
+    requires rests { IsResting board.old }
+    requires fits { Fits (members board.old.chips) devices.now numbers.now }
+    requires within { AllWithin (left steps.old) }
+    ensures { (m : AtRest) → IsAtRest board.old m → IfOk result (λ v. GoesOn numbers.now.pins.items (left steps.old) m
+        (left steps.new) board.new v.items) }
 {
-    // For the proof alone: what the types keep of a program's steps and of a board's devices.
-    let _ = program.len();
-    let _ = board.devices();
     let mut list = Vec::new(alloc);
-    play_opening(board);
-    for step in program.steps() {
+    'steps: while list.len() < BLOCK {
+        let Some(step) = steps.next() else {
+            return Ok(list);
+        };
         note_step(alloc, devices, numbers, &step, board, &mut list)?;
     }
     Ok(list)
 }
 
-/// The captures of the data column in a program's play on the board of a plan from power-up, to its end whatever fails:
-/// of each what is noted of every pin of the board's nets, net after net. Refused where memory runs out.
+/// A program's play on the board of a plan as far as it has gone, to be gone on with.
+#[derive(Drop)]
+pub struct Captures<'a> {
+    devices: &'a [PlannedDevice],
+    numbers: PinNumbers,
+    steps: Steps<'a>,
+    board: Board,
+}
+
+/// A program's play on the board of a plan, from power-up, before its first capture. Refused where memory runs out.
 ///
 /// Asks that the plan powers up.
-pub fn note_captures(
+pub fn start_play<'a>(
     alloc: Global,
-    plan: &Plan,
-    program: &Program,
-) -> Result<Vec<Capture>, AllocError>
+    plan: &'a Plan,
+    program: &'a Program,
+) -> Result<Captures<'a>, AllocError>
     requires { PowersUp plan.now }
-    ensures { IfOk result (λ v. map seen v.items ≡ map (noted_at (all_pins (wiring plan.now).nets))
-        (events.events (program_of program.now).steps (opened_state (board_of (wiring plan.now))))) }
+    ensures { IfOk result (AreLeft (captures (program_of program.now) (wiring plan.now))
+        (all_pins (wiring plan.now).nets)) }
 {
+    // For the proof alone: what the types keep of a program's steps and of a board's devices.
+    let _ = program.len();
     let numbers = number_pins(alloc, &plan.devices, &plan.nets)?;
     let mut board = Board::powered_up(alloc, plan)?;
-    note_program(alloc, &plan.devices, &numbers, program, &mut board)
+    let _ = board.devices();
+    play_opening(&mut board);
+    Ok(Captures {
+        devices: &plan.devices,
+        numbers,
+        steps: program.steps(),
+        board,
+    })
+}
+
+impl<'a> Captures<'a> {
+    ghost use Rattle.std.specs.Prelude.{List, IfOk};
+    ghost use Rattle.pin_nets.specs.declared.Pin.{Pin as ThePin};
+    ghost use Rattle.fault_events.specs.Captures.{AreLeft, Begins, IsUnderWay, Noted};
+
+    /// What is noted at the next captures of the data column, whatever fails: of 64 or a few more, since those of a
+    /// step stay together; of fewer at the end of the program, and of none behind it. Refused where memory runs out.
+    ///
+    /// Asks for a play that `start_play` began.
+    pub fn next_block(&mut self, alloc: Global) -> Result<Vec<Capture>, AllocError>
+        requires { IsUnderWay self.old }
+        ensures { (cs : List Noted) (pins : List ThePin) → AreLeft cs pins self.old
+            → IfOk result (λ v. Begins cs pins self.old v.items self.new) }
+    {
+        note_steps(
+            alloc,
+            self.devices,
+            &self.numbers,
+            &mut self.steps,
+            &mut self.board,
+        )
+    }
 }

@@ -13,8 +13,8 @@ use pin_nets::Pull;
 /// Which pulls a way is about: that of its net, and of a bridge that of the other.
 #[derive(Drop, Clone, Copy)]
 pub struct Pulls {
-    pub(crate) first: Pull,
-    pub(crate) second: Pull,
+    pub first: Pull,
+    pub second: Pull,
 }
 
 /// The least wanted bit that is another where a fault shows in a way, by what is noted of both groups of pins.

@@ -1,11 +1,9 @@
 //! Laws of captures.
 ghost use Rattle.fault_events.specs.Endings.{CapturesMayBeCut, NotesTellOfFaults};
 ghost use Rattle.fault_events.specs.Events.{EventsTellOfFaults, EventsTellOfRuns};
-ghost use Rattle.fault_events.specs.Nets.{NetsTellOfFaults};
 ghost use Rattle.fault_events.specs.Notes.{NotesTellOfWays};
 ghost use Rattle.fault_events.specs.Rows.{EventRows};
 ghost use Rattle.fault_events.specs.Sources.{CapturesTakeFromSources};
-ghost use Rattle.fault_events.specs.Told.{OnePlayTellsOfFaults};
 
 /// Whatever the nets are, a capture of the data column takes each bit from its source: what a pin sees, or a bit that
 /// hangs on no net. Of devices without strings, in whatever registers.
@@ -39,17 +37,6 @@ pub fn notes_tell_of_ways()
 /// tells how it ends on the board where a fault shows in a way, unless a bit that stays is another before.
 pub fn notes_tell_of_faults()
     ensures { NotesTellOfFaults }
-{}
-
-/// The same by what is noted of each net, of every way but that of an open joint.
-pub fn nets_tell_of_faults()
-    ensures { NetsTellOfFaults }
-{}
-
-/// The same of every way, by what is noted of pins where a joint is open and of nets elsewhere: one play tells of all
-/// faults of a board.
-pub fn one_play_tells_of_faults()
-    ensures { OnePlayTellsOfFaults }
 {}
 
 /// Captures may be judged block by block: the first that do not tell that a program passes tell how it ends.

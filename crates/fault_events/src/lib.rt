@@ -15,13 +15,12 @@ mod numbers;
 mod tables;
 mod ways;
 
-pub use captures::{Capture, note_captures};
+pub use captures::{Capture, Captures, start_play};
 pub use differing::Pulls;
 pub use laws::{
     captures_may_be_cut, captures_take_from_sources, events_compute, events_tell_of_faults,
-    events_tell_of_runs, nets_tell_of_faults, notes_tell_of_faults, notes_tell_of_ways,
-    one_play_tells_of_faults,
+    events_tell_of_runs, notes_tell_of_faults, notes_tell_of_ways,
 };
 pub use nets::{NetCapture, net_captures, net_ending, note_at, pulls_of};
 pub use notes::{Note, Spot};
-pub use ways::{Told, one_play, way_ending};
+pub use ways::{Block, block_of, way_ending};

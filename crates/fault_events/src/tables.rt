@@ -7,7 +7,7 @@ ghost use Rattle.board_plan.specs.View.{member as planned_member, net as planned
 ghost use Rattle.pin_nets.specs.declared.Pin.{Pin as ThePin};
 ghost use Rattle.fault_events.specs.Drives.{AreDriverTables, HasDrivers, wire_in};
 ghost use Rattle.fault_events.specs.Tables.{AreNumbered, entered, table_of, tables_of, with_pin};
-ghost use Rattle.fault_events.specs.Told.{starts_of};
+ghost use Rattle.fault_events.specs.Blocks.{starts_of};
 
 use crate::drives::PinWire;
 use crate::numbers::number_at;

@@ -1,18 +1,15 @@
-//! What one play tells of a board's faults.
+//! What the captures of one play tell of a board's faults.
 
 ghost use Rattle.std.specs.Prelude.{◌≡◌, drop, map, take, IfOk};
 ghost use Rattle.std.specs.List.{remove};
-ghost use Rattle.svf_programs.specs.Sizes.{program_of};
-ghost use Rattle.board_plan.specs.View.{net as planned_net, wiring};
-ghost use Rattle.board_faults.specs.Made.{PowersUp};
+ghost use Rattle.board_plan.specs.View.{net as planned_net};
 ghost use Rattle.board_faults.specs.declared.kinds.Way.TheVariants as way;
 ghost use Rattle.fault_events.specs.Captures.{seen};
 ghost use Rattle.fault_events.specs.Endings as endings;
 ghost use Rattle.fault_events.specs.Endings.{ending_noted};
-ghost use Rattle.fault_events.specs.Nets as nets_spec;
-ghost use Rattle.fault_events.specs.Told.{IsTold, ending_told, starts_of};
+ghost use Rattle.fault_events.specs.Blocks.{IsBlock, noted_in, starts_of};
 
-use crate::captures::{Capture, note_captures};
+use crate::captures::Capture;
 use crate::differing::{first_other, stays_other};
 use crate::nets::{
     NetCapture, all_of, all_with, behind, front, net_captures, net_ending, pulls_of,
@@ -20,21 +17,20 @@ use crate::nets::{
 use crate::notes::Note;
 use crate::tables::net_starts;
 use board_faults::Way;
-use board_plan::{Plan, PlannedNet};
+use board_plan::PlannedNet;
 use play_model::Ending;
 use std::alloc::{AllocError, Global};
-use svf_programs::Program;
 
-/// What is noted at the captures of the data column in one play: of every pin of the board's nets, net after net, and
-/// of every net; and where the pins of each net begin.
+/// Some captures of the data column in one play, one after another: what is noted at each of every pin of the board's
+/// nets, net after net, and of every net; and where the pins of each net begin.
 #[derive(Drop)]
-pub struct Told {
+pub struct Block {
     pins: Vec<Capture>,
     nets: Vec<NetCapture>,
     starts: Vec<usize>,
 }
 
-impl Told {
+impl Block {
     ghost use Rattle.std.specs.Prelude.{◌≡◌};
 
     /// What is noted of every net, capture after capture.
@@ -45,37 +41,36 @@ impl Told {
     }
 }
 
-/// What a program's play on the board of a plan tells of the board's faults: from power-up, to its end whatever fails.
-/// Refused where memory runs out.
-///
-/// Asks that the plan powers up.
-pub fn one_play(alloc: Global, plan: &Plan, program: &Program) -> Result<Told, AllocError>
-    requires { PowersUp plan.now }
-    ensures { IfOk result (IsTold (program_of program.now) (wiring plan.now)) }
+/// Captures of a play on these nets, as faults are judged by them. Refused where memory runs out.
+pub fn block_of(alloc: Global, nets: &[PlannedNet], pins: Vec<Capture>) -> Result<Block, AllocError>
+    ensures block { IfOk result (IsBlock (map planned_net nets.now)) }
+    ensures noted { IfOk result (λ b. noted_in b ≡ map seen pins.items) }
 {
-    let pins = note_captures(alloc, plan, program)?;
-    let nets = net_captures(alloc, &plan.nets, &pins)?;
-    let starts = net_starts(alloc, &plan.nets)?;
-    Ok(Told { pins, nets, starts })
+    let by_net = net_captures(alloc, nets, &pins)?;
+    let starts = net_starts(alloc, nets)?;
+    Ok(Block {
+        pins,
+        nets: by_net,
+        starts,
+    })
 }
 
-/// How a program that passes ends on the board where a fault of these nets shows in a way, by what one play told.
-/// Nothing where that does not tell: where a bit that stays in a register is another before one that is wanted. Such a
+/// How a program that passes ends on the board where a fault of these nets shows in a way, by these captures of it.
+/// Nothing where they do not tell: where a bit that stays in a register is another before one that is wanted. Such a
 /// way is to be played as a whole.
 ///
-/// Asks that it was a play on these nets.
-pub fn way_ending(told: &Told, nets: &[PlannedNet], way: Way) -> Option<Ending>
-    requires { told.now.starts.items ≡ starts_of (map planned_net nets.now) }
-    ensures { result ≡ ending_told (map planned_net nets.now) way (map seen told.now.pins.items)
-        (map nets_spec.seen told.now.nets.items) }
+/// Asks that they are of these nets.
+pub fn way_ending(block: &Block, nets: &[PlannedNet], way: Way) -> Option<Ending>
+    requires { IsBlock (map planned_net nets.now) block.now }
+    ensures { result ≡ ending_noted (map planned_net nets.now) way (noted_in block.now) }
 {
     match way {
-        Way::Open { net, pin, bit } => open_ending(&told.pins, &told.starts, nets, net, pin, bit),
-        Way::Pull { net } => net_ending(&told.nets, way, pulls_of(nets, net, net), net, net),
-        Way::Stuck { net, .. } => net_ending(&told.nets, way, pulls_of(nets, net, net), net, net),
+        Way::Open { net, pin, bit } => open_ending(&block.pins, &block.starts, nets, net, pin, bit),
+        Way::Pull { net } => net_ending(&block.nets, way, pulls_of(nets, net, net), net, net),
+        Way::Stuck { net, .. } => net_ending(&block.nets, way, pulls_of(nets, net, net), net, net),
         Way::Short { first, second, .. } => {
             net_ending(
-                &told.nets,
+                &block.nets,
                 way,
                 pulls_of(nets, first, second),
                 first,

@@ -2,9 +2,8 @@ pub mod Marks
 pub mod Counting
 pub mod Tallying
 pub mod NetsKept
-pub mod Telling
+pub mod VerdictLines
 pub mod OnePlay
 pub mod Plain
-pub mod WordBits
 pub mod Putting
 pub mod Quiet

@@ -1,23 +1,16 @@
--- Boards without strings: they power up without an order, and have a meaning with every fault.
+-- Boards without strings.
 use Rattle.std.proofs.Common.{◌≡◌, ◌≤◌, ℕ, suc, ◌+◌, Bool, true, false, nat_lt, List, [], ◌∷◌, ◌++◌, length, map, refl, sym, ap, ap₂, subst, ◌∙◌, arith}
 use Rattle.std.specs.List.{AllByRecursion, list_any}
 use Rattle.std.proofs.lemmas.Bool.{or_parts}
 use Rattle.std.proofs.lemmas.Bool.Decides.{nat_tests}
-use Rattle.std.proofs.lemmas.List.Sorted.{IsPermutation-refl}
-use Rattle.std.proofs.lemmas.Option.{none-some}
 use Rattle.pin_nets.specs.declared.Follow.{Follow}
 use Rattle.board_plan.specs.declared.plan.Plan.{Plan}
 use Rattle.board_plan.specs.declared.plan.PlannedDevice.{PlannedDevice}
 use Rattle.board_plan.specs.Planned.{Member, Wiring}
 use Rattle.board_plan.specs.View.{member as planned_member, wiring}
-use Rattle.board_loops.specs.Depending.{dependencies, dependencies_from, dependency}
-use Rattle.board_loops.specs.Loops.{IsInOrder}
-use Rattle.board_loops.specs.declared.net_loops.Dependency.{Dependency}
 use Rattle.board_model.specs.Nets.{strings}
 use Rattle.board_model.specs.Planned.{members_of, powered_up}
-use Rattle.board_faults.specs.Faulty.{CanBeJudged}
 use Rattle.board_faults.specs.Judging.{HasNoStrings}
-use Rattle.board_faults.specs.Made.{PowersUp}
 
 -- ---- none of the devices has a string
 
@@ -44,22 +37,3 @@ no-strings (m ∷ ms) plain = ap₂ (λ (a b : ℕ). a + b) (ap (λ (fs : List F
 
 pub without_strings : (w : Wiring) → HasNoStrings w → strings (members_of w) ≡ 0
 without_strings w plain = no-strings w.members plain
-
--- ---- so it needs no order
-
-no-dependencies : (w : Wiring) (k : ℕ) (ms : List Member) → AllByRecursion (λ (m : Member). m.follows ≡ []) ms → dependencies_from w k ms ≡ []
-no-dependencies w k [] plain = refl
-no-dependencies w k (m ∷ ms) plain =
-    ap (λ (fs : List Follow). map (dependency w k m.device.cells) fs ++ dependencies_from w (suc k) ms) plain.0 ∙ no-dependencies w (suc k) ms plain.1
-
-none-in-order : IsInOrder [] []
-none-in-order = record { each_once = IsPermutation-refl []; before = λ i j one other at there same. absurd (none-some one at) }
-
-pub powers_plain : (p : Plan) → CanBeJudged (wiring p) → HasNoStrings (wiring p) → p.order.items ≡ [] → PowersUp p
-powers_plain p can plain none = record {
-  ready = can.ready;
-  sound = can.sound;
-  ordered =
-      subst (λ (o : List ℕ). IsInOrder (dependencies (wiring p)) o) (sym none)
-      (subst (λ (ds : List Dependency). IsInOrder ds []) (sym (no-dependencies (wiring p) 0 (wiring p).members plain)) none-in-order);
-}

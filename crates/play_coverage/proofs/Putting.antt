@@ -5,13 +5,13 @@ use Rattle.std.proofs.Math.Seq.{get_or-append_seam}
 use Rattle.std.proofs.lemmas.List.{length-append, length-map}
 use Rattle.std.proofs.lemmas.Bool.{cases_lt}
 use Rattle.std.proofs.lemmas.Option.{same_Some, slice_get_within}
-use Rattle.play_coverage.specs.declared.planes.NoteWords.{NoteWords}
+use Rattle.play_coverage.specs.declared.planing.NoteWords.{NoteWords}
 use Rattle.fault_events.specs.declared.nets.NetCapture.{NetCapture}
 use Rattle.fault_events.specs.Captures.{Noted}
 use Rattle.fault_events.specs.Marks.{nothing_noted}
 use Rattle.fault_events.specs.Nets.{seen}
 use Rattle.play_coverage.specs.Planes.{AreNetWords, AreWordsOf, IsNoteAt, no_words}
-use Rattle.play_coverage.proofs.WordBits.{no_bit}
+use Rattle.board_faults.proofs.WordBits.{no_bit}
 
 pub nothing_at : (k : ℕ) → IsNoteAt k nothing_noted no_words
 nothing_at k = record {

@@ -3,8 +3,7 @@ use Rattle.std.proofs.Common.{◌≡◌, ◌<◌, ℕ, zero, suc, Bool, true, fa
 use Rattle.std.specs.Prelude.{is_some, nat_lt}
 use Rattle.board_faults.specs.declared.together.Driven.{Driven}
 use Rattle.pin_nets.specs.Wired.{Net}
-use Rattle.play_coverage.specs.declared.planes.BridgePulls.{BridgePulls}
-use Rattle.play_coverage.specs.declared.planes.NoteWords.{NoteWords}
+use Rattle.play_coverage.specs.declared.planing.NoteWords.{NoteWords}
 use Rattle.fault_events.specs.declared.differing.Pulls.{Pulls}
 use Rattle.board_faults.specs.declared.kinds.Way.{Way}
 use Rattle.board_faults.specs.declared.kinds.Way.TheVariants as way
@@ -18,8 +17,7 @@ use Rattle.fault_events.specs.Captures.{Noted}
 use Rattle.fault_events.specs.Nets.{ending_by_nets, note_at}
 use Rattle.fault_events.specs.Notes.{earlier, some_if}
 use Rattle.fault_events.specs.Pulls.{first_by, pulls_of, stays_by}
-use Rattle.fault_events.specs.Told.{ending_told}
-use Rattle.play_coverage.specs.Planes.{AreQuiet, IsNoteAt, driven_at, tells, tells_at}
+use Rattle.play_coverage.specs.Planes.{AreQuiet, IsNoteAt, tells, tells_at}
 
 -- ---- what words tell is what notes do
 
@@ -37,22 +35,19 @@ is-if true o = refl
 is-if false o = refl
 
 -- by what both nets' pins drive, and which of them are wanted and stay
-abbrev told_by : Winner → BridgePulls → (f g : Driven) → (wanted wanted' stays stays' : Bool) → Bool
+abbrev told_by : Winner → Pulls → (f g : Driven) → (wanted wanted' stays stays' : Bool) → Bool
 told_by winner p f g wanted wanted' stays stays' =
     let first = short_differs winner p.first p.second true false f g in
     let second = short_differs winner p.first p.second false true f g in
     ((first && wanted) || (second && wanted')) || ((stays && first) || (stays' && second))
 
-abbrev as_noted : BridgePulls → Pulls
-as_noted p = record { first = p.first; second = p.second }
-
-pub words_tell : (net other : ℕ) (winner : Winner) (p : BridgePulls) (k : ℕ) (a b : Note) (one two : NoteWords) → IsNoteAt k a one → IsNoteAt k b two
-    → tells_at winner p one two k ≡ tells (way.Short net other winner) (as_noted p) a b
+pub words_tell : (net other : ℕ) (winner : Winner) (p : Pulls) (k : ℕ) (a b : Note) (one two : NoteWords) → IsNoteAt k a one → IsNoteAt k b two
+    → tells_at winner p one two k ≡ tells (way.Short net other winner) p a b
 words_tell net other winner p k a b one two of of' =
     let first = short_differs winner p.first p.second true false a.made b.made in
     let second = short_differs winner p.first p.second false true a.made b.made in
     (λ i. told_by winner p (of.made i) (of'.made i) (of.wanted i) (of'.wanted i) (of.stays i) (of'.stays i))
-    ∙ ap (λ (x : Bool). x || stays_by (way.Short net other winner) (as_noted p) a b)
+    ∙ ap (λ (x : Bool). x || stays_by (way.Short net other winner) p a b)
     (sym (is-earlier (some_if first a.first) (some_if second b.first) ∙ ap₂ (λ (x y : Bool). x || y) (is-if first a.first) (is-if second b.first)))
 
 -- ---- the ending
@@ -82,7 +77,8 @@ module _ (its_way : Way) (p : Pulls) (first second : ℕ) where
       one-quiet n ns (quiet 0 n (omega arith) refl) ∙ passed-over m ns (λ k x below is. quiet (suc k) x (omega (arith, below)) is)
 
 -- of a bridge
-pub passed_over : (nets : List Net) (first second : ℕ) (winner : Winner) (m : ℕ) (ps ns : List Noted) → AreQuiet nets (way.Short first second winner) ns m
-    → ending_told nets (way.Short first second winner) ps ns ≡ ending_told nets (way.Short first second winner) ps (drop m ns)
-passed_over nets first second winner m ps ns quiet =
+pub passed_over : (nets : List Net) (first second : ℕ) (winner : Winner) (m : ℕ) (ns : List Noted) → AreQuiet nets (way.Short first second winner) ns m
+    → ending_by_nets (way.Short first second winner) (pulls_of nets (way.Short first second winner)) first second ns
+    ≡ ending_by_nets (way.Short first second winner) (pulls_of nets (way.Short first second winner)) first second (drop m ns)
+passed_over nets first second winner m ns quiet =
     passed-over (way.Short first second winner) (pulls_of nets (way.Short first second winner)) first second m ns quiet

@@ -1,25 +1,18 @@
 -- What is noted of nets at up to 64 captures at once: bit k of each word is of the k-th. What a bridge tells by it.
-use Rattle.std.specs.Prelude.{◌≡◌, ◌<◌, Bool, true, false, not, ◌&&◌, ◌||◌, ℕ, List, length, slice_get, slice_index_or}
+use Rattle.std.specs.Prelude.{◌≡◌, ◌<◌, Bool, true, false, ◌&&◌, ◌||◌, ℕ, List, length, slice_get, slice_index_or}
 use Rattle.std.specs.Prelude.{Some, is_some}
 use Rattle.jt_bits.specs.Packed.{has_bit}
 use Rattle.board_faults.specs.declared.kinds.Way.{Way}
+use Rattle.board_faults.specs.Planes.{driven_at}
 use Rattle.board_faults.specs.declared.kinds.Winner.{Winner}
-use Rattle.board_faults.specs.declared.kinds.Winner.TheVariants.{Zeros, Ones, First, Second}
-use Rattle.board_faults.specs.declared.together.Driven.{Driven}
 use Rattle.pin_nets.specs.Wired.{Net}
 use Rattle.board_faults.specs.Together.{first_of, second_of, short_differs}
 use Rattle.fault_events.specs.declared.differing.Pulls.{Pulls}
 use Rattle.fault_events.specs.declared.notes.Note.{Note}
-use Rattle.play_coverage.specs.declared.planes.BridgePulls.{BridgePulls}
-use Rattle.play_coverage.specs.declared.planes.DrivenWords.{DrivenWords}
-use Rattle.play_coverage.specs.declared.planes.NoteWords.{NoteWords}
+use Rattle.play_coverage.specs.declared.planing.NoteWords.{NoteWords}
 use Rattle.fault_events.specs.Captures.{Noted}
 use Rattle.fault_events.specs.Nets.{note_at}
 use Rattle.fault_events.specs.Pulls.{first_by, pulls_of, stays_by}
-
--- what is driven at the k-th capture
-abbrev pub driven_at : DrivenWords → ℕ → Driven
-driven_at d k = record { zero = has_bit d.zero k; one = has_bit d.one k; weak = has_bit d.weak k }
 
 abbrev pub no_words : NoteWords
 no_words = record { made = record { zero = 0; one = 0; weak = 0 }; wanted = 0; stays = 0 }
@@ -40,15 +33,8 @@ AreNetWords ns ws = (net : ℕ) → net < length ws → AreWordsOf net ns (slice
 
 -- ---- what a bridge tells
 
--- what it shows where its strong drivers are opposed
-abbrev pub led : Winner → (first second : Driven) → Bool
-led Zeros f g = false
-led Ones f g = true
-led First f g = f.one && not f.zero
-led Second f g = g.one && not g.zero
-
 -- a wanted bit, or one that stays, is another at the k-th capture
-abbrev pub tells_at : Winner → BridgePulls → (one two : NoteWords) → (k : ℕ) → Bool
+abbrev pub tells_at : Winner → Pulls → (one two : NoteWords) → (k : ℕ) → Bool
 tells_at winner p one two k =
     let f = driven_at one.made k in
     let g = driven_at two.made k in

@@ -8,7 +8,8 @@ use Rattle.output_words.specs.declared.status.Status.{Status}
 use Rattle.output_words.specs.declared.status.Status.TheVariants as exits
 use Rattle.board_plan.specs.Planned.{Wiring}
 use Rattle.board_faults.specs.declared.judging.Judged.{Judged}
-use Rattle.board_faults.specs.Judging.{JudgesBoard}
+use Rattle.board_faults.specs.declared.kinds.Fault.{Fault}
+use Rattle.board_faults.specs.Judging.{JudgesAll, JudgesBoard}
 use Rattle.play_coverage.specs.declared.contending.Contention.{Contention}
 use Rattle.play_coverage.specs.declared.outcomes.FaultKind.{FaultKind}
 use Rattle.play_coverage.specs.declared.outcomes.FaultKind.TheVariants as kind
@@ -45,6 +46,11 @@ pub record TellsFaults (program : Program) (w : Wiring) (before : List ℕ) (lis
   pub judged : List Judged
   pub judges : JudgesBoard program w judged
   pub tells : IsTally before listed w judged t
+
+-- some of them are judged, and told behind those before
+abbrev pub TellsMore : Program → Wiring → (listed : Bool) → List Fault → (old new : Tally) → Type 0
+TellsMore program w listed faults old new = (before : List ℕ) (js : List Judged) → IsTally before listed w js old
+    → (more : List Judged) × JudgesAll program w faults more × IsTally before listed w (js ++ more) new
 
 -- ---- one fault more
 

@@ -10,9 +10,9 @@ ghost use Rattle.play_coverage.specs.Covering.{Covers, IsCover, Tells};
 ghost use Rattle.play_coverage.specs.Lines.{contention_line};
 ghost use Rattle.play_coverage.specs.Tallies.{status_by};
 
-use crate::benches::ending_on;
 use crate::contending::{Contention, contentions};
 use crate::judging::tell_faults;
+use crate::serving::ending_on;
 use crate::totals::put_totals;
 use board_description::{Untold, net_name};
 use board_faults::Board;

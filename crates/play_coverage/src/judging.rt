@@ -1,37 +1,53 @@
 //! What a program makes of faults, one after another.
 
-ghost use Rattle.std.specs.Prelude.{◌≡◌, map, option_map, IfOk, OnOk};
+ghost use Rattle.std.specs.Prelude.{◌≡◌, flat_map, option_map, slice_index_or, None, IfOk, OnOk};
+ghost use Rattle.std.specs.List.{AllByRecursion};
 ghost use Rattle.svf_programs.specs.Sizes.{program_of};
-ghost use Rattle.board_plan.specs.View.{net as planned_net, wiring};
-ghost use Rattle.board_faults.specs.Faults.{IsFaultOf, IsWayOf};
+ghost use Rattle.board_plan.specs.View.{wiring};
+ghost use Rattle.board_faults.specs.Faults.{IsFaultOf, IsWayOf, ways};
 ghost use Rattle.board_faults.specs.Faulty.{CanBeJudged};
 ghost use Rattle.board_faults.specs.Judging.{JudgesFault, JudgesWayWith};
-ghost use Rattle.fault_events.specs.Captures.{seen};
-ghost use Rattle.fault_events.specs.Nets.{seen as seen_nets};
-ghost use Rattle.fault_events.specs.Told.{ending_told, starts_of};
-ghost use Rattle.play_coverage.specs.Benches.{IsBench};
-ghost use Rattle.play_coverage.specs.Planes.{AreNetWords};
-ghost use Rattle.play_coverage.specs.Tallies.{TellsFaults};
-ghost use Rattle.play_coverage.specs.Told.{JudgesEnding, JudgesPassed, MayJudge};
+ghost use Rattle.board_faults.specs.Made.{IsReadyPlan};
+ghost use Rattle.play_coverage.specs.Serving.{AreTold, IsBench, IsToldOf};
+ghost use Rattle.play_coverage.specs.Tallies.{TellsFaults, TellsMore};
+ghost use Rattle.play_coverage.specs.Told.{JudgesPassed};
 
-use crate::benches::{Bench, Telling, bench_for};
-use crate::planing::{captures_behind, quiet_captures};
+use crate::serving::{Chunk, next_chunk, serving_of, told_behind};
 use crate::tallies::{Tally, tally_behind, tell};
-use board_faults::{Fault, Faults, Judged, JudgedWay, Verdict, Way, is_invisible, judge_way};
-use board_plan::{Plan, PlannedNet};
-use fault_events::{net_ending, pulls_of, way_ending};
+use board_faults::{
+    Fault, Faults, Judged, JudgedWay, Sights, Verdict, Way, bench_of, is_invisible, judge_way,
+    sights_of,
+};
+use board_plan::Plan;
 use play_model::Ending;
 use std::alloc::{AllocError, Global};
 use svf_programs::Program;
+
+/// What the faults of a board are judged with: the board once more, to be wired with each of them, and what is seen of
+/// its pins and nets.
+#[derive(Drop)]
+pub struct Bench {
+    pub(crate) board: Plan,
+    pub(crate) sights: Sights,
+}
+
+/// A bench for the faults of a planned board. Refused where memory runs out.
+pub fn bench_for(alloc: Global, plan: &Plan) -> Result<Bench, AllocError>
+    ensures { IfOk result (IsBench (wiring plan.now)) }
+{
+    let board = bench_of(alloc, plan)?;
+    let sights = sights_of(alloc, &plan.devices, &plan.nets)?;
+    Ok(Bench { board, sights })
+}
 
 /// What a program makes of every fault of a planned board's nets, in the order of `Faults`, told one after another
 /// behind a text: how the play of the program on the board with it ends, from power-up, of each of its ways but those
 /// that no program could catch. Refused where memory runs out, or where a count does not fit.
 ///
-/// One play of the board tells it, where the board has no strings and the program passes on it; a way in which a bit
-/// that stays in a register is another is played as a whole, and elsewhere every way is. No fault is kept.
+/// A play of the board tells it of some faults at a time, where the board has no strings and the program passes on it;
+/// a way in which a bit that stays in a register is another is played as a whole, and elsewhere every way is.
 ///
-/// Asks that the plan's board is ready, and that every net shows what its drivers say, as of a board file it does.
+/// Asks that the plan is ready, as those are that board files make.
 pub(crate) fn tell_faults(
     alloc: Global,
     plan: &Plan,
@@ -39,22 +55,57 @@ pub(crate) fn tell_faults(
     listed: bool,
     text: Vec<u8>,
 ) -> Result<Tally, AllocError>
-    requires { CanBeJudged (wiring plan.now) }
+    requires { IsReadyPlan plan.now }
     ensures { IfOk result (TellsFaults (program_of program.now) (wiring plan.now) text.items listed) }
 {
-    let mut bench = bench_for(alloc, plan, program)?;
+    let mut bench = bench_for(alloc, plan)?;
+    let serving = serving_of(alloc, plan, program)?;
     let mut tally = tally_behind(text);
-    for fault in Faults::of(&plan.nets) {
-        let ways = judge_fault(alloc, &mut bench, plan, program, fault)?;
-        let judged = Judged { fault, ways };
-        tell(&mut tally, plan, listed, &judged)?;
+    let mut left = Faults::of(&plan.nets);
+    'chunks: loop {
+        let chunk = next_chunk(alloc, &serving, plan, program, &mut left)?;
+        if chunk.faults.is_empty() {
+            return Ok(tally);
+        }
+        tell_chunk(alloc, &mut bench, plan, program, listed, &chunk, &mut tally)?;
     }
-    Ok(tally)
 }
 
-/// What a program makes of a fault of a planned board's nets (asked), by a bench for them: of each of its ways, in
-/// their order, how the play on the board with it ends, from power-up, unless no program could catch the way; nothing
-/// where the board with it has no meaning. Refused where memory runs out.
+/// Tells some faults more.
+fn tell_chunk(
+    alloc: Global,
+    bench: &mut Bench,
+    plan: &Plan,
+    program: &Program,
+    listed: bool,
+    chunk: &Chunk,
+    tally: &mut Tally,
+) -> Result<(), AllocError>
+    requires may { CanBeJudged (wiring plan.now) }
+    requires bench { IsBench (wiring plan.now) bench.old }
+    requires faults { AllByRecursion (IsFaultOf (wiring plan.now).nets) chunk.now.faults.items }
+    requires told { AreTold (program_of program.now) (wiring plan.now) (flat_map ways chunk.now.faults.items)
+        chunk.now.endings.items }
+    ensures bench { OnOk result (IsBench (wiring plan.now) bench.new) }
+    ensures tells { OnOk result (TellsMore (program_of program.now) (wiring plan.now) listed chunk.now.faults.items
+        tally.old tally.new) }
+{
+    let mut told = chunk.endings.as_slice();
+    for fault in &chunk.faults {
+        let ways = judge_fault(alloc, bench, plan, program, *fault, told)?;
+        let judged = Judged {
+            fault: *fault,
+            ways,
+        };
+        tell(tally, plan, listed, &judged)?;
+        told = told_behind(told, fault.way_count());
+    }
+    Ok(())
+}
+
+/// What a program makes of a fault of a planned board's nets (asked), given how it ends in its ways as far as that is
+/// told (asked): of each of its ways, in their order, how the play on the board with it ends, from power-up, unless no
+/// program could catch the way; nothing where the board with it has no meaning. Refused where memory runs out.
 ///
 /// Asks that the plan's board is ready, and that every net shows what its drivers say, as of a board file it does.
 pub fn judge_fault(
@@ -63,18 +114,20 @@ pub fn judge_fault(
     plan: &Plan,
     program: &Program,
     fault: Fault,
+    told: &[Option<Ending>],
 ) -> Result<Option<Vec<JudgedWay>>, AllocError>
     requires may { CanBeJudged (wiring plan.now) }
-    requires bench { IsBench (program_of program.now) (wiring plan.now) bench.old }
+    requires bench { IsBench (wiring plan.now) bench.old }
     requires fault { IsFaultOf (wiring plan.now).nets fault }
-    ensures bench { OnOk result (IsBench (program_of program.now) (wiring plan.now) bench.new) }
+    requires told { AreTold (program_of program.now) (wiring plan.now) (ways fault) told.now }
+    ensures bench { OnOk result (IsBench (wiring plan.now) bench.new) }
     ensures judged { IfOk result (λ o. JudgesFault (program_of program.now) (wiring plan.now) fault
         (option_map (λ js. js.items) o)) }
 {
     let mut ways = Vec::with_capacity(alloc, 4)?;
     let mut k = 0;
     while let Some(way) = fault.way(k) {
-        match verdict_of(alloc, bench, plan, program, way)? {
+        match verdict_of(alloc, bench, plan, program, way, told_at(told, k))? {
             None => return Ok(None),
             Some(verdict) => ways.push(JudgedWay { way, verdict })?,
         }
@@ -83,96 +136,47 @@ pub fn judge_fault(
     Ok(Some(ways))
 }
 
-/// What a program makes of a way of a fault; nothing where the board with it has no meaning.
+/// What is told of the k-th way.
+pub fn told_at(told: &[Option<Ending>], k: usize) -> Option<Ending>
+    ensures { result ≡ slice_index_or told.now k None }
+{
+    match told.get(k) {
+        Some(ending) => *ending,
+        None => None,
+    }
+}
+
+/// What a program makes of a way of a fault, given how it ends if that is told; nothing where it has no meaning.
 fn verdict_of(
     alloc: Global,
     bench: &mut Bench,
     plan: &Plan,
     program: &Program,
     way: Way,
+    told: Option<Ending>,
 ) -> Result<Option<Verdict>, AllocError>
     requires may { CanBeJudged (wiring plan.now) }
-    requires bench { IsBench (program_of program.now) (wiring plan.now) bench.old }
+    requires bench { IsBench (wiring plan.now) bench.old }
     requires way { IsWayOf (wiring plan.now).nets way }
-    ensures bench { OnOk result (IsBench (program_of program.now) (wiring plan.now) bench.new) }
+    requires told { IsToldOf (program_of program.now) (wiring plan.now) way told }
+    ensures bench { OnOk result (IsBench (wiring plan.now) bench.new) }
     ensures judged { IfOk result (JudgesWayWith (program_of program.now) (wiring plan.now) way) }
-{
-    if let Some(verdict) = told_verdict(alloc, bench, plan, program, way)? {
-        return Ok(Some(verdict));
-    }
-    judge_way(
-        alloc,
-        &mut bench.board,
-        &plan.nets,
-        &bench.sights,
-        program,
-        way,
-    )
-}
-
-/// The same by what one play told; nothing where that does not tell.
-fn told_verdict(
-    alloc: Global,
-    bench: &Bench,
-    plan: &Plan,
-    program: &Program,
-    way: Way,
-) -> Result<Option<Verdict>, AllocError>
-    requires may { CanBeJudged (wiring plan.now) }
-    requires bench { IsBench (program_of program.now) (wiring plan.now) bench.now }
-    requires way { IsWayOf (wiring plan.now).nets way }
-    ensures { IfOk result (MayJudge (program_of program.now) (wiring plan.now) way) }
 {
     // For the proof alone: what the type keeps of a program's steps.
     let _ = program.len();
-    let Some(told) = &bench.told else {
-        return Ok(None);
-    };
-    match told_ending(told, &plan.nets, way) {
-        None => Ok(None),
-        Some(ending) => Ok(Some(verdict_by(alloc, bench, plan, program, way, ending)?)),
-    }
-}
-
-/// How a program that passes ends on the board where a fault of these nets shows in a way, by what one play told;
-/// nothing where that does not tell. The first captures at which a bridge tells nothing are passed over, by words.
-fn told_ending(telling: &Telling, nets: &[PlannedNet], way: Way) -> Option<Ending>
-    requires starts { telling.now.told.starts.items ≡ starts_of (map planned_net nets.now) }
-    requires words { AreNetWords (map seen_nets telling.now.told.nets.items) telling.now.words.items }
-    ensures { result ≡ ending_told (map planned_net nets.now) way (map seen telling.now.told.pins.items)
-        (map seen_nets telling.now.told.nets.items) }
-{
-    match way {
-        Way::Short {
-            first,
-            second,
-            winner,
-        } => {
-            let quiet = quiet_captures(&telling.words, nets, first, second, winner);
-            let behind = captures_behind(telling.told.captures(), quiet);
-            net_ending(behind, way, pulls_of(nets, first, second), first, second)
-        }
-        _ => way_ending(&telling.told, nets, way),
-    }
-}
-
-/// What is told of a way with which the program ends so.
-fn verdict_by(
-    alloc: Global,
-    bench: &Bench,
-    plan: &Plan,
-    program: &Program,
-    way: Way,
-    ending: Ending,
-) -> Result<Verdict, AllocError>
-    requires may { CanBeJudged (wiring plan.now) }
-    requires bench { IsBench (program_of program.now) (wiring plan.now) bench.now }
-    requires way { IsWayOf (wiring plan.now).nets way }
-    ensures { IfOk result (JudgesEnding (wiring plan.now) way ending) }
-{
-    match ending {
-        Ending::Pass => passed_verdict(alloc, bench, plan, program, way),
-        ending => Ok(Verdict::Played(ending)),
+    match told {
+        None => judge_way(
+            alloc,
+            &mut bench.board,
+            &plan.nets,
+            &bench.sights,
+            program,
+            way,
+        ),
+        Some(ending) => match ending {
+            Ending::Pass => Ok(Some(passed_verdict(alloc, bench, plan, way)?)),
+            _ => Ok(Some(Verdict::Played(ending))),
+        },
     }
 }
 
@@ -181,11 +185,10 @@ fn passed_verdict(
     alloc: Global,
     bench: &Bench,
     plan: &Plan,
-    program: &Program,
     way: Way,
 ) -> Result<Verdict, AllocError>
     requires may { CanBeJudged (wiring plan.now) }
-    requires bench { IsBench (program_of program.now) (wiring plan.now) bench.now }
+    requires bench { IsBench (wiring plan.now) bench.now }
     requires way { IsWayOf (wiring plan.now).nets way }
     ensures { IfOk result (JudgesPassed (wiring plan.now) way) }
 {

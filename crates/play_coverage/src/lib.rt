@@ -4,23 +4,22 @@
 
 ghost use Rattle.play_coverage.specs.Rows.{CoverRows};
 
-mod benches;
 mod contending;
 mod covering;
 mod judging;
 mod outcomes;
-mod planes;
 mod planing;
+mod serving;
 mod tallies;
 mod totals;
 mod ways;
 mod words;
 
-pub use benches::{Bench, bench_for};
 pub use contending::{Contention, contentions};
 pub use covering::write_cover;
-pub use judging::judge_fault;
+pub use judging::{Bench, bench_for, judge_fault, told_at};
 pub use outcomes::{FaultKind, Outcome};
+pub use serving::{Chunk, Serving, Telling, next_chunk, serving_of, told_behind};
 pub use words::{put_fault, put_way};
 
 /// The lines of some faults, worked out.

@@ -1,6 +1,6 @@
 //! What is noted of nets, put into words: up to 64 captures at once.
 
-ghost use Rattle.std.specs.Prelude.{◌≡◌, ◌≢◌, ◌<◌, ℕ, List, false, drop, map, IfOk};
+ghost use Rattle.std.specs.Prelude.{◌≡◌, ◌≢◌, ◌<◌, ◌≤◌, ℕ, List, false, drop, map, IfOk};
 ghost use Rattle.jt_bits.specs.Packed.{has_bit};
 ghost use Rattle.board_faults.specs.declared.kinds.Way.TheVariants as way;
 ghost use Rattle.board_plan.specs.View.{net as planned_net};
@@ -8,17 +8,29 @@ ghost use Rattle.fault_events.specs.declared.notes.Note.{Note as TheNote};
 ghost use Rattle.fault_events.specs.Captures.{Noted};
 ghost use Rattle.fault_events.specs.Marks.{nothing_noted};
 ghost use Rattle.fault_events.specs.Nets.{seen};
-ghost use Rattle.play_coverage.specs.Planes.{AreNetWords, AreQuiet, AreWordsOf, IsNoteAt};
+ghost use Rattle.play_coverage.specs.Planes.{AreNetWords, AreQuiet, AreWordsOf, IsNoteAt, tells_at};
 
-use crate::planes::{BridgePulls, DrivenWords, NOTHING, NoteWords, quiet_front};
-use board_faults::{Winner, pull_at};
+use board_faults::{DrivenWords, Winner, bridge_words, differing, joined};
 use board_plan::PlannedNet;
-use fault_events::{NetCapture, Note, note_at};
+use fault_events::{NetCapture, Note, Pulls, note_at, pulls_of};
 use std::alloc::{AllocError, Global};
+
+/// What is noted of a net at up to 64 captures, bit `k` of each word at the k-th: what its pins drive together, whether
+/// a wanted bit is taken from one of them, and whether a bit that stays is.
+#[derive(Drop, Clone, Copy)]
+pub(crate) struct NoteWords {
+    pub(crate) made: DrivenWords,
+    pub(crate) wanted: u64,
+    pub(crate) stays: u64,
+}
 
 /// Nothing is noted at any capture.
 const NO_NOTES: NoteWords = NoteWords {
-    made: NOTHING,
+    made: DrivenWords {
+        zero: 0,
+        one: 0,
+        weak: 0,
+    },
     wanted: 0,
     stays: 0,
 };
@@ -88,14 +100,39 @@ pub(crate) fn quiet_captures(
     ensures { (ns : List Noted) → AreNetWords ns words.now
         → AreQuiet (map planned_net nets.now) (way.Short first second winner) ns result }
 {
-    let pulls = BridgePulls {
-        first: pull_at(nets, first),
-        second: pull_at(nets, second),
-    };
+    let pulls = pulls_of(nets, first, second);
     if first < words.len() && second < words.len() {
         return quiet_front(winner, pulls, words[first], words[second]);
     }
     0
+}
+
+/// At which captures a bridge tells something: a wanted bit, or one that stays, is another.
+fn telling(winner: Winner, pulls: Pulls, one: NoteWords, two: NoteWords) -> u64
+    ensures { (k : ℕ) → k < 64 → has_bit result k ≡ tells_at winner pulls one two k }
+{
+    let after = bridge_words(
+        winner,
+        joined(pulls.first, pulls.second),
+        one.made,
+        two.made,
+    );
+    let first = differing(pulls.first, one.made, after);
+    let second = differing(pulls.second, two.made, after);
+    let caught = (first & one.wanted) | (second & two.wanted);
+    caught | ((one.stays & first) | (two.stays & second))
+}
+
+/// At so many of the first captures, up to 64, a bridge tells nothing.
+fn quiet_front(winner: Winner, pulls: Pulls, one: NoteWords, two: NoteWords) -> usize
+    ensures few { result ≤ 64 }
+    ensures quiet { (k : ℕ) → k < result → tells_at winner pulls one two k ≡ false }
+{
+    let telling = telling(winner, pulls, one, two);
+    if telling == 0 {
+        return 64;
+    }
+    telling.trailing_zeros() as usize
 }
 
 /// Captures behind so many.

@@ -66,7 +66,8 @@ pub(crate) fn tell(
     listed: bool,
     judged: &Judged,
 ) -> Result<(), AllocError>
-    ensures { OnOk result ((before : List ℕ) (js : List TheJudged) → IsTally before listed (wiring plan.now) js tally.old
+    ensures { OnOk result ((before : List ℕ) (js : List TheJudged)
+        → IsTally before listed (wiring plan.now) js tally.old
         → IsTally before listed (wiring plan.now) (js ++ judged.now ∷ []) tally.new) }
 {
     put_line(&mut tally.text, plan, listed, tally.told, judged)?;

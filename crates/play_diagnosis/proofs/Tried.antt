@@ -1,5 +1,5 @@
 -- Ways and faults that are tried, one after another.
-use Rattle.std.proofs.Common.{◌≡◌, ◌↔◌, Bool, List, ℕ, [], ◌∷◌, ◌++◌, refl, sym, ap, ◌∙◌, append_assoc}
+use Rattle.std.proofs.Common.{◌≡◌, ◌↔◌, Bool, List, ℕ, [], ◌∷◌, ◌++◌, refl, sym, ap, subst, ◌∙◌, append_assoc}
 use Rattle.std.specs.Prelude.{IsTrue}
 use Rattle.std.proofs.lemmas.List.{append-nil}
 use Rattle.svf_programs.specs.Steps.{Program}
@@ -25,3 +25,10 @@ module _ (said : Verdict) (program : Program) (w : Wiring) where
   tells_more (f ∷ faults) told fault line all is =
       let rest = all.2.0 in
       (all.0, all.1, (rest ++ line, tells_more faults rest fault line all.2.1 is, ap (λ (l : List ℕ). l ++ line) all.2.2 ∙ append_assoc all.0 rest line))
+
+  pub tells_join : (faults more : List Fault) (told line : List ℕ) → TellsFaults said program w faults told → TellsFaults said program w more line
+      → TellsFaults said program w (faults ++ more) (told ++ line)
+  tells_join [] more told line none is = subst (λ (l : List ℕ). TellsFaults said program w more (l ++ line)) (sym none) is
+  tells_join (f ∷ faults) more told line all is =
+      let rest = all.2.0 in
+      (all.0, all.1, (rest ++ line, tells_join faults more rest line all.2.1 is, ap (λ (l : List ℕ). l ++ line) all.2.2 ∙ append_assoc all.0 rest line))

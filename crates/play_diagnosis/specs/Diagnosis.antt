@@ -52,6 +52,11 @@ TellsFaults said program w (fault ∷ faults) told =
     (line : List ℕ) × TellsFault said program w fault line
     × ((rest : List ℕ) × TellsFaults said program w faults rest × (told ≡ line ++ rest))
 
+-- behind a text
+abbrev pub PutsFaults : Verdict → Program → Wiring → List Fault → (before after : List ℕ) → Type 0
+PutsFaults said program w faults before after =
+    (told : List ℕ) × TellsFaults said program w faults told × (after ≡ before ++ told)
+
 -- where no fault is told
 abbrev pub none_line : List ℕ
 none_line = codes "none: no single fault gives these bits\n"

@@ -25,6 +25,11 @@ by_ending Passes ending = Some (is_pass ending)
 by_ending (Stops m) ending = Some (is_first m ending)
 by_ending (PlaysOn f) ending = by_first f.list ending
 
+-- of a play whose ending is told, if it is
+abbrev pub by_told : Verdict → Option Ending → Option Bool
+by_told said None = None
+by_told said (Some ending) = by_ending said ending
+
 -- ---- lists of failures
 
 abbrev pub is_same_bit : Mismatch → Mismatch → Bool

@@ -1,27 +1,30 @@
 //! Which single faults of a board's nets give just what a log says, as it is printed.
 
 ghost use Rattle.std.specs.Prelude.{◌≡◌, ◌++◌, IfOk, OnOk, flat_map};
+ghost use Rattle.std.specs.List.{AllByRecursion};
 ghost use Rattle.output_words.specs.Statuses.{number};
 ghost use Rattle.svf_programs.specs.Sizes.{program_of};
 ghost use Rattle.board_plan.specs.View.{wiring};
-ghost use Rattle.board_faults.specs.Faults.{IsFaultOf, faults};
+ghost use Rattle.board_faults.specs.Faults.{IsFaultOf, faults, ways};
 ghost use Rattle.board_faults.specs.Faulty.{CanBeJudged};
 ghost use Rattle.board_faults.specs.Made.{IsReadyPlan};
 ghost use Rattle.play_coverage.specs.Covering.{Tells};
+ghost use Rattle.play_coverage.specs.Serving.{AreTold};
 ghost use Rattle.play_diagnosis.specs.Benches.{IsBench};
 ghost use Rattle.play_diagnosis.specs.Diagnosis as spec;
-ghost use Rattle.play_diagnosis.specs.Diagnosis.{IsDiagnosis, PutsFault, TellsFaults, fault_line};
+ghost use Rattle.play_diagnosis.specs.Diagnosis.{IsDiagnosis, PutsFault, PutsFaults, TellsFaults, fault_line};
 ghost use Rattle.play_diagnosis.specs.Diagnosis.{fitting_ways, fitting_words};
 ghost use Rattle.play_diagnosis.specs.Reading.{verdict_of};
 
-use crate::fitting::{Bench, TriedWay, bench_for, try_fault};
+use crate::fitting::{TriedWay, try_fault};
 use crate::reading::Said;
 use board_description::Untold;
-use board_faults::{Fault, Faults};
+use board_faults::{Fault, Faults, bench_of};
 use board_plan::Plan;
 use byte_streams::{Counted, Sink, put_all};
 use output_words::{Status, put};
-use play_coverage::{put_fault, put_way};
+use play_coverage::{Chunk, next_chunk, put_fault, put_way, serving_of, told_behind};
+use play_model::Ending;
 use std::alloc::{AllocError, Global};
 use svf_programs::Program;
 
@@ -104,36 +107,70 @@ fn tell_faults(
     program: &Program,
     said: &Said,
 ) -> Result<Vec<u8>, AllocError>
-    requires { CanBeJudged (wiring plan.now) }
+    requires { IsReadyPlan plan.now }
     ensures { IfOk result (λ v. TellsFaults (verdict_of said.now) (program_of program.now) (wiring plan.now)
         (faults (wiring plan.now).nets) v.items) }
 {
-    let mut bench = bench_for(alloc, plan, program)?;
+    let mut bench = bench_of(alloc, plan)?;
+    let serving = serving_of(alloc, plan, program)?;
     let mut text = Vec::new(alloc);
-    for fault in Faults::of(&plan.nets) {
-        tell_fault(alloc, &mut bench, plan, program, said, fault, &mut text)?;
+    let mut left = Faults::of(&plan.nets);
+    'chunks: loop {
+        let chunk = next_chunk(alloc, &serving, plan, program, &mut left)?;
+        if chunk.faults.is_empty() {
+            return Ok(text);
+        }
+        tell_chunk(alloc, &mut bench, plan, program, said, &chunk, &mut text)?;
     }
-    Ok(text)
+}
+
+/// Puts the lines of some faults behind a text.
+fn tell_chunk(
+    alloc: Global,
+    bench: &mut Plan,
+    plan: &Plan,
+    program: &Program,
+    said: &Said,
+    chunk: &Chunk,
+    text: &mut Vec<u8>,
+) -> Result<(), AllocError>
+    requires may { CanBeJudged (wiring plan.now) }
+    requires bench { IsBench (wiring plan.now) bench.old }
+    requires faults { AllByRecursion (IsFaultOf (wiring plan.now).nets) chunk.now.faults.items }
+    requires told { AreTold (program_of program.now) (wiring plan.now) (flat_map ways chunk.now.faults.items)
+        chunk.now.endings.items }
+    ensures bench { OnOk result (IsBench (wiring plan.now) bench.new) }
+    ensures tells { OnOk result (PutsFaults (verdict_of said.now) (program_of program.now) (wiring plan.now)
+        chunk.now.faults.items text.old.items text.new.items) }
+{
+    let mut told = chunk.endings.as_slice();
+    for fault in &chunk.faults {
+        tell_fault(alloc, bench, plan, program, said, *fault, told, text)?;
+        told = told_behind(told, fault.way_count());
+    }
+    Ok(())
 }
 
 /// Puts the line of a fault of a planned board's nets (asked) behind a text, if it gives just what a log says.
 fn tell_fault(
     alloc: Global,
-    bench: &mut Bench,
+    bench: &mut Plan,
     plan: &Plan,
     program: &Program,
     said: &Said,
     fault: Fault,
+    told: &[Option<Ending>],
     text: &mut Vec<u8>,
 ) -> Result<(), AllocError>
     requires may { CanBeJudged (wiring plan.now) }
-    requires bench { IsBench (program_of program.now) (wiring plan.now) bench.old }
+    requires bench { IsBench (wiring plan.now) bench.old }
     requires fault { IsFaultOf (wiring plan.now).nets fault }
-    ensures bench { OnOk result (IsBench (program_of program.now) (wiring plan.now) bench.new) }
+    requires told { AreTold (program_of program.now) (wiring plan.now) (ways fault) told.now }
+    ensures bench { OnOk result (IsBench (wiring plan.now) bench.new) }
     ensures tells { OnOk result (PutsFault (verdict_of said.now) (program_of program.now) (wiring plan.now) fault
         text.old.items text.new.items) }
 {
-    let ways = try_fault(alloc, bench, plan, program, said, fault)?;
+    let ways = try_fault(alloc, bench, plan, program, said, fault, told)?;
     put_line(text, plan, fault, &ways)?;
     Ok(())
 }

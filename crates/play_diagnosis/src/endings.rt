@@ -9,8 +9,18 @@ use crate::reading::Said;
 use play_model::Ending;
 use scan_vectors::{Failures, Mismatch};
 
-/// Whether a play that ends so gives what a log says; nothing where only the whole play tells.
-pub(crate) fn by_ending(said: &Said, ending: Ending) -> Option<bool>
+/// Whether a play whose ending is told, if it is, gives what a log says; nothing where only the whole play tells.
+pub(crate) fn by_told(said: &Said, told: Option<Ending>) -> Option<bool>
+    ensures { result ≡ ended.by_told (verdict_of said.now) told }
+{
+    match told {
+        Some(ending) => by_ending(said, ending),
+        None => None,
+    }
+}
+
+/// The same of one that ends so.
+fn by_ending(said: &Said, ending: Ending) -> Option<bool>
     ensures { result ≡ ended.by_ending (verdict_of said.now) ending }
 {
     match said {

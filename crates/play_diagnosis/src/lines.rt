@@ -1,6 +1,7 @@
 //! What a line of a log says.
 
-ghost use Rattle.std.specs.Prelude.{◌≡◌, ◌<◌, ◌≤◌, ◌+◌, ◌*◌, ◌^◌, ◌∷◌, ◌==◌, false, true, length, map, option_map, take, IfSome};
+ghost use Rattle.std.specs.Prelude.{◌≡◌, ◌<◌, ◌≤◌, ◌+◌, ◌*◌, ◌^◌, ◌∷◌, ◌==◌, false, true, length, map, option_map};
+ghost use Rattle.std.specs.Prelude.{take, IfSome};
 ghost use Rattle.std.specs.Char.{is_ascii_digit};
 ghost use Rattle.std.specs.List.{list_all, list_any, slice_split};
 ghost use Rattle.std.specs.Str.{bytes_eq};
@@ -78,7 +79,8 @@ fn without_return(line: &[u8]) -> &[u8]
 
 /// The bytes before the first of this value, and those behind it, if there is one.
 pub(crate) fn cut(text: &[u8], byte: u8) -> (&[u8], Option<&[u8]>)
-    ensures pieces { slice_split (λ b. b == byte) text.now ≡ result.0.now ∷ pieces byte (option_map (λ r. r.now) result.1) }
+    ensures pieces { slice_split (λ b. b == byte) text.now
+        ≡ result.0.now ∷ pieces byte (option_map (λ r. r.now) result.1) }
     ensures shorter { IfSome result.1 (λ rest. length rest.now < length text.now) }
 {
     match memchr(byte, text) {

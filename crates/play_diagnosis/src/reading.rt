@@ -33,8 +33,8 @@ pub enum Said {
 pub enum LogFault {
     /// L1: no play prints this line, or not behind the lines before it.
     BadLine(usize),
-    /// L2: the play came to no verdict: it was lost, or got a bad answer; or the bits that fail are listed without their
-    /// number.
+    /// L2: the play came to no verdict: it was lost, or got a bad answer; or the bits that fail are listed without
+    /// their number.
     NoVerdict(usize),
     /// L3: the program has no such bit.
     NoSuchBit(usize),
@@ -59,8 +59,8 @@ pub(crate) struct Reading {
     total: Option<u64>,
 }
 
-/// What a log says of a play of a program: what `play`, `loop` and `connect` print, each line of it ended by a line feed,
-/// a carriage return before it or not. It takes no memory.
+/// What a log says of a play of a program: what `play`, `loop` and `connect` print, each line of it ended by a line
+/// feed, a carriage return before it or not. It takes no memory.
 pub fn read_log(program: &Program, log: &[u8]) -> Result<Said, LogFault>
     ensures { answered result ≡ spec.read (program_of program.now) log.now }
 {

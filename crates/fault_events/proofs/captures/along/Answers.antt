@@ -21,11 +21,11 @@ loop-state-preserved c =
     let after : AtRest → AtRest = λ x. record (pass (work s) x) { place = s } in
     let m = i.rests.state in
     let own = c.in_ok-pass.ensures m i.rests.is in
-    let at = noted_at c.args.numbers.now.pins.items in
-    let command = c.args.command in
+    let at = noted_at c.args.at.numbers.now.pins.items in
+    let command = c.args.at.command in
     record {
       rests = record { state = after m; is = own.rests };
-      fits = fits_next c.loop-state.board c.pass.new.board m (after m) i.rests.is own.rests (pass_keeps (work s) m) c.args.devices.now c.args.numbers.now i.fits;
+      fits = fits_next c.loop-state.board c.pass.new.board m (after m) i.rests.is own.rests (pass_keeps (work s) m) c.args.at.devices.now c.args.at.numbers.now i.fits;
       noted = λ first is.
           let n = i.noted first is in
           let x = n.0 in

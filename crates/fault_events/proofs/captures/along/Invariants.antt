@@ -10,13 +10,13 @@ use Rattle.fault_events.proofs.captures.along.Given as goal
 
 abbrev pub invariant-loop-state : goal.invariant-loop-state
 invariant-loop-state l =
-    let pins = l.numbers.pins.items in
+    let pins = l.at.numbers.now.pins.items in
     let left = drop l.state-index l.path in
     record {
       rests : IsResting l.board;
-      fits : Fits (members l.board.chips) l.devices l.numbers;
+      fits : Fits (members l.board.chips) l.at.devices.now l.at.numbers.now;
       noted : (m : AtRest) → IsAtRest l.fn.board m
           → (n : AtRest) × IsAtRest l.board n × (whole.along left n ≡ whole.along l.path m)
-          × (map seen l.list.items ++ map (noted_at pins) (events_along l.command left n)
-          ≡ map seen l.fn.list.items ++ map (noted_at pins) (events_along l.command l.path m));
+          × (map seen l.list.items ++ map (noted_at pins) (events_along l.at.command left n)
+          ≡ map seen l.fn.list.items ++ map (noted_at pins) (events_along l.at.command l.path m));
     }

@@ -22,18 +22,18 @@ none-captured command Ir v m not = refl
 pub returns : goal.returns
 returns c = λ m is.
     let old = map seen c.args.list.now.items in
-    let at = noted_at c.args.numbers.now.pins.items in
+    let at = noted_at c.args.at.numbers.now.pins.items in
     let v = bits c.args.vector.now in
     let rests = c.shift.ensures (capture c.args.column m) (c.capture.ensures m is) in
     elim c.match-column.branch [
       | in-Dr+in_ok-note_capture w ↦ record {
         rests = rests;
         noted = ap (λ l. map seen l.items) w.list-is ∙ w.in_ok-note_capture.ensures m is
-            ∙ ap (λ (column : Column). old ++ map at (events_capturing c.args.command column v m)) (sym w.in-Dr.is);
+            ∙ ap (λ (column : Column). old ++ map at (events_capturing c.args.at.command column v m)) (sym w.in-Dr.is);
       }
       | in_default w ↦ record {
         rests = rests;
         noted = ap (λ l. map seen l.items) w.list-is ∙ sym (append-nil old)
-            ∙ ap (λ (es : List Event). old ++ map at es) (none-captured c.args.command c.args.column v m w.in_default.not-Dr);
+            ∙ ap (λ (es : List Event). old ++ map at es) (none-captured c.args.at.command c.args.column v m w.in_default.not-Dr);
       }
     ]

@@ -23,11 +23,11 @@ note_pins-requires c =
 pub returns : goal.returns
 returns c = λ m is.
     let old = c.args.list.now.items in
-    let pins = c.args.numbers.now.pins.items in
+    let pins = c.args.at.numbers.now.pins.items in
     let v = bits c.args.vector.now in
-    let new : Capture = record { command = c.args.command; pins = c.in_ok-pins.pins } in
+    let new : Capture = record { command = c.args.at.command; pins = c.in_ok-pins.pins } in
     let ms : members c.chain.result.now.chips ≡ m.members =
     ap (λ (chips : List ChipState). members chips) c.chain.ensures.chips ∙ rests_members c.args.board.now m is in
     let notes : new.pins.items ≡ noted pins m.members v = c.in_ok-pins.ensures ∙ ap (λ (l : List Member). noted pins l v) ms in
     ap (map seen) c.in_ok-push.ensures.items ∙ map-append seen old (new ∷ [])
-    ∙ ap (λ (l : List Note). let one : Noted = record { command = c.args.command; notes = l } in map seen old ++ one ∷ []) notes
+    ∙ ap (λ (l : List Note). let one : Noted = record { command = c.args.at.command; notes = l } in map seen old ++ one ∷ []) notes

@@ -17,7 +17,7 @@ pub capture_scan-requires-clause-fits : goal.capture_scan-requires-clause-fits
 capture_scan-requires-clause-fits c =
     let m = c.requires.rests.state in
     let is = c.requires.rests.is in
-    fits_next c.args.board.now c.settle.new.self m (settle m) is (c.settle.ensures m is) (settle_keeps m) c.args.devices.now c.args.numbers.now c.requires.fits
+    fits_next c.args.board.now c.settle.new.self m (settle m) is (c.settle.ensures m is) (settle_keeps m) c.args.at.devices.now c.args.at.numbers.now c.requires.fits
 
 pub end-requires-clause-rests : goal.end-requires-clause-rests
 end-requires-clause-rests c =
@@ -36,7 +36,7 @@ end-requires-clause-fits c =
     let column = c.args.column in
     let t = tdis (bits c.args.vector.now) in
     fits_next c.args.board.now c.capture_scan.new.board m (shift column t (capture column s)) is (c.in_ok-capture_scan.ensures s (c.settle.ensures m is)).rests
-    (scanned_keeps column t s ∙ settle_keeps m) c.args.devices.now c.args.numbers.now c.requires.fits
+    (scanned_keeps column t s ∙ settle_keeps m) c.args.at.devices.now c.args.at.numbers.now c.requires.fits
 
 pub returns : goal.returns
 returns c = λ m is.
@@ -46,7 +46,7 @@ returns c = λ m is.
     let n = shift column (tdis v) (capture column s) in
     let one = c.in_ok-capture_scan.ensures s (c.settle.ensures m is) in
     on_ok_then c.end.result _ _
-    (λ more. goes_both c.args.numbers.now.pins.items (events_capturing c.args.command column v s) (events_ending c.args.command column c.args.state n)
+    (λ more. goes_both c.args.at.numbers.now.pins.items (events_capturing c.args.at.command column v s) (events_ending c.args.at.command column c.args.state n)
     n (scan_end column c.args.state n) c.capture_scan.new.board c.end.new.board
     c.args.list.now.items c.capture_scan.new.list.items c.end.new.list.items one more)
     (c.end.ensures n one.rests)

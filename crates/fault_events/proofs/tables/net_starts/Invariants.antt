@@ -1,6 +1,6 @@
 use Rattle.std.proofs.Common.{◌≡◌, ◌++◌, drop, length, map}
 use Rattle.board_plan.specs.View.{net as planned_net}
-use Rattle.fault_events.specs.Told.{starts_from, starts_of}
+use Rattle.fault_events.specs.Blocks.{starts_from, starts_of}
 use Rattle.fault_events.proofs.tables.net_starts.Given as goal
 
 abbrev pub invariant-loop-net : goal.invariant-loop-net

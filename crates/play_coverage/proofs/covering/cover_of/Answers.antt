@@ -10,9 +10,6 @@ use Rattle.play_coverage.specs.Lines.{contention_line, cover_lines, cover_status
 use Rattle.play_coverage.proofs.Tallying.{lines_of, status_of}
 use Rattle.play_coverage.proofs.covering.cover_of.Goals as goal
 
-pub tell_faults-requires : goal.tell_faults-requires
-tell_faults-requires c = record { ready = c.requires.powers_up.ready; sound = c.requires.powers_up.sound; counted = c.requires.counted }
-
 pub returns : goal.returns
 returns c =
     let w = wiring c.args.plan.now in

@@ -3,7 +3,7 @@ use Rattle.svf_programs.specs.Sizes.{program_of}
 use Rattle.board_plan.specs.View.{wiring}
 use Rattle.board_faults.specs.Made.{board_of}
 use Rattle.play_model.specs.Play.{play}
-use Rattle.play_coverage.proofs.Telling.{passed, verdict_lost}
+use Rattle.play_coverage.proofs.VerdictLines.{passed, verdict_lost}
 use Rattle.play_coverage.proofs.covering.write_cover.Goals as goal
 
 pub returns-in-Pass : goal.returns-in-Pass

@@ -8,7 +8,17 @@ use Rattle.board_faults.specs.declared.kinds.Way.{Way}
 use Rattle.board_faults.specs.Faults.{ways}
 use Rattle.board_faults.specs.Judging.{JudgesEach, JudgesWayWith}
 use Rattle.board_faults.proofs.JudgingLaws.{among_slice, judges_more}
+use Rattle.play_coverage.specs.Serving.{IsToldOf}
+use Rattle.play_coverage.proofs.OnePlay.{told_there}
 use Rattle.play_coverage.proofs.judging.judge_fault.Goals as goal
+
+pub verdict_of-requires-clause-told : goal.verdict_of-requires-clause-told
+verdict_of-requires-clause-told c =
+    let program = program_of c.args.program.now in
+    let w = wiring c.args.plan.now in
+    let way = c.in-Some.way in
+    subst (IsToldOf program w way) (sym c.told_at.ensures)
+    (told_there program w (ways c.args.fault) c.args.told.now c.loop-way.k way c.requires.told (sym c.in-Some.ensures))
 
 pub returns-in-None-clause-judged : goal.returns-in-None-clause-judged
 returns-in-None-clause-judged c =

@@ -1,61 +1,75 @@
-use Rattle.std.proofs.Common.{◌++◌, ◌∷◌, [], List, map, refl, sym, ap, ◌∙◌, append_assoc}
+use Rattle.std.proofs.Common.{◌≡◌, ◌++◌, [], List, length, map, refl, sym, ap, subst, ◌∙◌, append_assoc, arith}
+use Rattle.std.specs.List.{AllByRecursion}
+use Rattle.std.proofs.lemmas.List.{append-nil, length-append}
 use Rattle.svf_programs.specs.Sizes.{program_of}
+use Rattle.board_plan.specs.declared.plan.PlannedNet.{PlannedNet}
 use Rattle.board_plan.specs.View.{net as planned_net, wiring}
 use Rattle.board_faults.specs.declared.judging.Judged.{Judged}
 use Rattle.board_faults.specs.declared.kinds.Fault.{Fault}
-use Rattle.board_plan.specs.declared.plan.PlannedNet.{PlannedNet}
-use Rattle.board_faults.specs.Faults.{faults}
+use Rattle.board_faults.specs.Faults.{IsFaultOf, faults}
+use Rattle.board_faults.specs.Judging.{JudgesAll}
 use Rattle.board_faults.specs.Listing.{left_of}
-use Rattle.board_faults.proofs.JudgingLaws.{fault_there, faults_more}
+use Rattle.board_faults.proofs.JudgingLaws.{every_fault}
+use Rattle.play_coverage.proofs.OnePlay.{judges_join, none_there, some_less, some_there}
 use Rattle.play_coverage.proofs.judging.tell_faults.Goals as goal
 
-pub judge_fault-requires-clause-fault : goal.judge_fault-requires-clause-fault
-judge_fault-requires-clause-fault c =
-    let i = c.loop-fault.invariant in
-    fault_there (map planned_net c.args.plan.now.nets.items) i.done c.in-Some.fault (left_of c.next.new.self)
-    (i.left ∙ ap (λ (l : List Fault). i.done ++ l) c.in-Some.ensures.steps)
-
-pub loop-fault-init : goal.loop-fault-init
-loop-fault-init c = record {
-  done = [];
-  judged = [];
-  left = ap (λ (ns : List PlannedNet). faults (map planned_net ns)) (sym c.deref.ensures.value) ∙ sym c.of-fault-items.ensures
-      ∙ ap left_of (sym c.into_iter-fault-iterator.ensures.into_iter_gives);
-  bench = c.in_ok-bench.ensures;
-  judges = tt;
-  tells = c.tally_behind-tally.ensures c.args.listed (wiring c.args.plan.now);
-}
-
-pub loop-fault-preserved : goal.loop-fault-preserved
-loop-fault-preserved c =
-    let i = c.loop-fault.invariant in
-    let program = program_of c.args.program.now in
+pub chunks-init : goal.chunks-init
+chunks-init c =
     let w = wiring c.args.plan.now in
-    let f = c.in-Some.fault in
-    let rest = left_of c.next.new.self in
-    let j : Judged = record { fault = f; ways = c.in_ok-ways.ways } in
+    let all : faults w.nets ≡ left_of c.of-left.result =
+    ap (λ (ns : List PlannedNet). faults (map planned_net ns)) (sym c.deref.ensures.value) ∙ sym c.of-left.ensures in
     record {
-      done = i.done ++ f ∷ [];
-      judged = i.judged ++ j ∷ [];
-      left = i.left ∙ ap (λ (l : List Fault). i.done ++ l) c.in-Some.ensures.steps ∙ sym (append_assoc i.done (f ∷ []) rest);
-      bench = c.in_ok-ways.ensures.bench;
-      judges = faults_more program w i.done i.judged f j i.judges refl c.in_ok-ways.ensures.judged;
-      tells = c.in_ok-tell.ensures c.args.text.items i.judged i.tells;
+      done = [];
+      judged = [];
+      all = all;
+      theirs = subst (AllByRecursion (IsFaultOf w.nets)) all (every_fault w.nets);
+      serving = c.in_ok-serving.ensures;
+      bench = c.in_ok-bench.ensures;
+      judges = tt;
+      tells = c.tally_behind-tally.ensures c.args.listed w;
     }
 
-pub loop-fault-preserved-in_ok-tell : goal.loop-fault-preserved-in_ok-tell
-loop-fault-preserved-in_ok-tell c =
-    let i = c.loop-fault.invariant in
-    let program = program_of c.args.program.now in
+pub tell_chunk-requires-clause-may : goal.tell_chunk-requires-clause-may
+tell_chunk-requires-clause-may c = record { ready = c.requires.powers_up.ready; sound = c.requires.powers_up.sound; counted = c.requires.counted }
+
+pub next_chunk-requires-clause-faults : goal.next_chunk-requires-clause-faults
+next_chunk-requires-clause-faults c = c.chunks.invariant.theirs
+
+pub next_chunk-requires-clause-serving : goal.next_chunk-requires-clause-serving
+next_chunk-requires-clause-serving c = c.chunks.invariant.serving
+
+pub returns-then-is_empty : goal.returns-then-is_empty
+returns-then-is_empty c =
     let w = wiring c.args.plan.now in
-    let f = c.in-Some.fault in
-    let rest = left_of c.next.new.self in
-    let j : Judged = record { fault = f; ways = c.in_ok-ways.ways } in
+    let i = c.chunks.invariant in
+    let none : left_of c.chunks.left ≡ [] = c.in_ok-chunk.ensures.next.over
+    (none_there c.in_ok-chunk.chunk.faults.items _ c.is_empty.result c.is_empty.ensures c.in_ok-chunk.chunk.faults.ok.0 c.if-is_empty.true) in
     record {
-      done = i.done ++ f ∷ [];
-      judged = i.judged ++ j ∷ [];
-      left = i.left ∙ ap (λ (l : List Fault). i.done ++ l) c.in-Some.ensures.steps ∙ sym (append_assoc i.done (f ∷ []) rest);
-      bench = c.in_ok-ways.ensures.bench;
-      judges = faults_more program w i.done i.judged f j i.judges refl c.in_ok-ways.ensures.judged;
-      tells = c.in_ok-tell.ensures c.args.text.items i.judged i.tells;
+      judged = i.judged;
+      judges = subst (λ (fs : List Fault). JudgesAll (program_of c.args.program.now) w fs i.judged)
+          (sym (i.all ∙ ap (λ (l : List Fault). i.done ++ l) none ∙ append-nil i.done)) i.judges;
+      tells = i.tells;
     }
+
+pub chunks-preserved : goal.chunks-preserved
+chunks-preserved c =
+    let w = wiring c.args.plan.now in
+    let i = c.chunks.invariant in
+    let chunk = c.in_ok-chunk.ensures in
+    let fs = c.in_ok-chunk.chunk.faults.items in
+    let more = c.in_ok-tell_chunk.ensures.tells c.args.text.items i.judged i.tells in
+    record {
+      done = i.done ++ fs;
+      judged = i.judged ++ more.0;
+      all = i.all ∙ ap (λ (l : List Fault). i.done ++ l) chunk.next.are ∙ sym (append_assoc i.done fs (left_of c.next_chunk.new.left));
+      theirs = chunk.others;
+      serving = i.serving;
+      bench = c.in_ok-tell_chunk.ensures.bench;
+      judges = judges_join (program_of c.args.program.now) w i.done fs i.judged more.0 i.judges more.1;
+      tells = more.2;
+    }
+
+pub chunks-smaller : goal.chunks-smaller
+chunks-smaller c =
+    some_less (left_of c.chunks.left) c.in_ok-chunk.chunk.faults.items (left_of c.next_chunk.new.left) c.in_ok-chunk.ensures.next.are
+    (some_there c.in_ok-chunk.chunk.faults.items _ c.is_empty.result c.is_empty.ensures c.in_ok-chunk.chunk.faults.ok.0 c.if-is_empty.false)

@@ -1,22 +1,30 @@
-use Rattle.std.proofs.Common.{◌≡◌, ◌++◌, List, map}
+use Rattle.std.proofs.Common.{◌≡◌, ◌++◌, List, length, map}
+use Rattle.std.specs.List.{AllByRecursion}
 use Rattle.svf_programs.specs.Sizes.{program_of}
-use Rattle.board_plan.specs.View.{net as planned_net, wiring}
+use Rattle.board_plan.specs.View.{wiring}
 use Rattle.board_faults.specs.declared.judging.Judged.{Judged}
 use Rattle.board_faults.specs.declared.kinds.Fault.{Fault}
-use Rattle.board_faults.specs.Faults.{faults}
+use Rattle.board_faults.specs.Faults.{IsFaultOf, faults}
 use Rattle.board_faults.specs.Judging.{JudgesAll}
 use Rattle.board_faults.specs.Listing.{left_of}
-use Rattle.play_coverage.specs.Benches.{IsBench}
+use Rattle.play_coverage.specs.Serving.{IsBench, MayServe}
 use Rattle.play_coverage.specs.Tallies.{IsTally}
 use Rattle.play_coverage.proofs.judging.tell_faults.Given as goal
 
 -- the faults so far are judged and told
-abbrev pub invariant-loop-fault : goal.invariant-loop-fault
-invariant-loop-fault l = record {
-  done : List Fault;
-  judged : List Judged;
-  left : faults (map planned_net l.plan.nets.items) ≡ done ++ left_of l.fault-iterator;
-  bench : IsBench (program_of l.program) (wiring l.plan) l.bench;
-  judges : JudgesAll (program_of l.program) (wiring l.plan) done judged;
-  tells : IsTally l.fn.text.items l.listed (wiring l.plan) judged l.tally;
-}
+abbrev pub invariant-chunks : goal.invariant-chunks
+invariant-chunks l =
+    let w = wiring l.plan in
+    record {
+      done : List Fault;
+      judged : List Judged;
+      all : faults w.nets ≡ done ++ left_of l.left;
+      theirs : AllByRecursion (IsFaultOf w.nets) (left_of l.left);
+      serving : MayServe (program_of l.program) w l.serving;
+      bench : IsBench w l.bench;
+      judges : JudgesAll (program_of l.program) w done judged;
+      tells : IsTally l.fn.text.items l.listed w judged l.tally;
+    }
+
+abbrev pub decreases-chunks : goal.decreases-chunks
+decreases-chunks l = length (left_of l.left)

@@ -1,6 +1,6 @@
 use Rattle.std.proofs.Common.{◌++◌, ◌∷◌, [], ℕ, List, length, map, sym, ap, subst, ◌∙◌, arith}
 use Rattle.std.proofs.lemmas.List.{length-append}
-use Rattle.play_coverage.specs.declared.planes.NoteWords.{NoteWords}
+use Rattle.play_coverage.specs.declared.planing.NoteWords.{NoteWords}
 use Rattle.fault_events.specs.Nets.{seen}
 use Rattle.play_coverage.specs.Planes.{AreNetWords, AreWordsOf}
 use Rattle.play_coverage.proofs.Putting.{more_words}

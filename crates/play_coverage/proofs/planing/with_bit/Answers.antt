@@ -1,5 +1,5 @@
 use Rattle.std.proofs.Common.{sym, ◌∙◌}
-use Rattle.play_coverage.proofs.WordBits.{set_here, set_others}
+use Rattle.board_faults.proofs.WordBits.{set_here, set_others}
 use Rattle.play_coverage.proofs.planing.with_bit.Goals as goal
 
 pub returns-then-bit-clause-here : goal.returns-then-bit-clause-here

@@ -1,34 +1,72 @@
-use Rattle.std.proofs.Common.{◌++◌, ◌∷◌, [], List, ℕ, map, sym, ap, subst, ◌∙◌, append_assoc}
+use Rattle.std.proofs.Common.{◌≡◌, ◌++◌, [], List, map, sym, ap, subst, ◌∙◌, append_assoc}
+use Rattle.std.specs.List.{AllByRecursion}
+use Rattle.std.proofs.lemmas.List.{append-nil}
 use Rattle.svf_programs.specs.Sizes.{program_of}
+use Rattle.board_plan.specs.declared.plan.PlannedNet.{PlannedNet}
+use Rattle.board_plan.specs.Planned.{Wiring}
 use Rattle.board_plan.specs.View.{net as planned_net, wiring}
 use Rattle.board_faults.specs.declared.kinds.Fault.{Fault}
+use Rattle.board_faults.specs.Faults.{IsFaultOf, faults}
 use Rattle.board_faults.specs.Listing.{left_of}
-use Rattle.board_faults.proofs.JudgingLaws.{fault_there}
+use Rattle.board_faults.proofs.JudgingLaws.{every_fault}
+use Rattle.play_coverage.proofs.OnePlay.{none_there, some_less, some_there}
 use Rattle.play_diagnosis.specs.Diagnosis.{TellsFaults}
 use Rattle.play_diagnosis.specs.Reading.{verdict_of}
-use Rattle.play_diagnosis.proofs.Tried.{tells_more}
+use Rattle.play_diagnosis.proofs.Tried.{tells_join}
 use Rattle.play_diagnosis.proofs.diagnosing.tell_faults.Goals as goal
 
-pub tell_fault-requires-clause-fault : goal.tell_fault-requires-clause-fault
-tell_fault-requires-clause-fault c =
-    let i = c.loop-fault.invariant in
-    fault_there (map planned_net c.args.plan.now.nets.items) i.done c.in-Some.fault (left_of c.next.new.self)
-    (i.left ∙ ap (λ (l : List Fault). i.done ++ l) c.in-Some.ensures.steps)
+pub chunks-init : goal.chunks-init
+chunks-init c =
+    let w = wiring c.args.plan.now in
+    let all : faults w.nets ≡ left_of c.of-left.result =
+    ap (λ (ns : List PlannedNet). faults (map planned_net ns)) (sym c.deref.ensures.value) ∙ sym c.of-left.ensures in
+    record {
+      done = [];
+      all = all;
+      theirs = subst (AllByRecursion (IsFaultOf w.nets)) all (every_fault w.nets);
+      serving = c.in_ok-serving.ensures;
+      bench = ap (λ (v : Wiring). v.members) c.in_ok-bench.ensures.board;
+      tells = c.new-text.ensures.items;
+    }
 
-pub loop-fault-preserved : goal.loop-fault-preserved
-loop-fault-preserved c =
-    let i = c.loop-fault.invariant in
-    let program = program_of c.args.program.now in
+pub tell_chunk-requires-clause-may : goal.tell_chunk-requires-clause-may
+tell_chunk-requires-clause-may c = record { ready = c.requires.powers_up.ready; sound = c.requires.powers_up.sound; counted = c.requires.counted }
+
+pub next_chunk-requires-clause-faults : goal.next_chunk-requires-clause-faults
+next_chunk-requires-clause-faults c = c.chunks.invariant.theirs
+
+pub next_chunk-requires-clause-serving : goal.next_chunk-requires-clause-serving
+next_chunk-requires-clause-serving c = c.chunks.invariant.serving
+
+pub returns-then-is_empty : goal.returns-then-is_empty
+returns-then-is_empty c =
+    let w = wiring c.args.plan.now in
+    let i = c.chunks.invariant in
+    let none : left_of c.chunks.left ≡ [] = c.in_ok-chunk.ensures.next.over
+    (none_there c.in_ok-chunk.chunk.faults.items _ c.is_empty.result c.is_empty.ensures c.in_ok-chunk.chunk.faults.ok.0 c.if-is_empty.true) in
+    subst (λ (fs : List Fault). TellsFaults (verdict_of c.args.said.now) (program_of c.args.program.now) w fs c.chunks.text.items)
+    (sym (i.all ∙ ap (λ (l : List Fault). i.done ++ l) none ∙ append-nil i.done)) i.tells
+
+pub chunks-preserved : goal.chunks-preserved
+chunks-preserved c =
     let w = wiring c.args.plan.now in
     let said = verdict_of c.args.said.now in
-    let f = c.in-Some.fault in
-    let rest = left_of c.next.new.self in
+    let program = program_of c.args.program.now in
+    let i = c.chunks.invariant in
+    let chunk = c.in_ok-chunk.ensures in
+    let fs = c.in_ok-chunk.chunk.faults.items in
+    let more = c.in_ok-tell_chunk.ensures.tells in
     record {
-      done = i.done ++ f ∷ [];
-      left = i.left ∙ ap (λ (l : List Fault). i.done ++ l) c.in-Some.ensures.steps ∙ sym (append_assoc i.done (f ∷ []) rest);
-      bench = c.in_ok-tell_fault.ensures.bench;
-      tells =
-          let put = c.in_ok-tell_fault.ensures.tells in
-          subst (λ (told : List ℕ). TellsFaults said program w (i.done ++ f ∷ []) told) (sym put.2)
-          (tells_more said program w i.done c.loop-fault.text.items f put.0 i.tells put.1);
+      done = i.done ++ fs;
+      all = i.all ∙ ap (λ (l : List Fault). i.done ++ l) chunk.next.are ∙ sym (append_assoc i.done fs (left_of c.next_chunk.new.left));
+      theirs = chunk.others;
+      serving = i.serving;
+      bench = c.in_ok-tell_chunk.ensures.bench;
+      tells = subst (λ (told : List _). TellsFaults said program w (i.done ++ fs) told) (sym more.2)
+          (tells_join said program w i.done fs c.chunks.text.items more.0 i.tells more.1);
     }
+
+pub chunks-smaller : goal.chunks-smaller
+chunks-smaller c =
+    some_less (left_of c.chunks.left) c.in_ok-chunk.chunk.faults.items (left_of c.next_chunk.new.left) c.in_ok-chunk.ensures.next.are
+    (some_there c.in_ok-chunk.chunk.faults.items _ c.is_empty.result c.is_empty.ensures c.in_ok-chunk.chunk.faults.ok.0 c.if-is_empty.false)

@@ -9,7 +9,17 @@ use Rattle.play_diagnosis.specs.declared.fitting.TriedWay.{TriedWay}
 use Rattle.play_diagnosis.specs.Fitting.{TriesEach}
 use Rattle.play_diagnosis.specs.Reading.{verdict_of}
 use Rattle.play_diagnosis.proofs.Tried.{tries_more}
+use Rattle.play_coverage.specs.Serving.{IsToldOf}
+use Rattle.play_coverage.proofs.OnePlay.{told_there}
 use Rattle.play_diagnosis.proofs.fitting.try_fault.Goals as goal
+
+pub fits-requires-clause-told : goal.fits-requires-clause-told
+fits-requires-clause-told c =
+    let program = program_of c.args.program.now in
+    let w = wiring c.args.plan.now in
+    let way = c.in-Some.way in
+    subst (IsToldOf program w way) (sym c.told_at.ensures)
+    (told_there program w (ways c.args.fault) c.args.told.now c.loop-way.k way c.requires.told (sym c.in-Some.ensures))
 
 pub loop-way-preserved : goal.loop-way-preserved
 loop-way-preserved c =

@@ -11,7 +11,7 @@ use Rattle.play_diagnosis.proofs.fitting.try_fault.Given as goal
 abbrev pub invariant-loop-way : goal.invariant-loop-way
 invariant-loop-way l = record {
   within : l.k ≤ length (ways l.fault);
-  bench : IsBench (program_of l.program) (wiring l.plan) l.bench;
+  bench : IsBench (wiring l.plan) l.bench;
   tries : TriesEach (verdict_of l.said) (program_of l.program) (wiring l.plan) (take l.k (ways l.fault)) l.ways.items;
 }
 

@@ -1,0 +1,23 @@
+use Rattle.std.proofs.Common.{◌≡◌, ◌++◌, ℕ, List, drop, take}
+use Rattle.std.specs.Prelude.{flat_map}
+use Rattle.std.specs.List.{AllByRecursion}
+use Rattle.svf_programs.specs.Sizes.{program_of}
+use Rattle.board_plan.specs.View.{wiring}
+use Rattle.board_faults.specs.declared.judging.Judged.{Judged}
+use Rattle.board_faults.specs.Faults.{IsFaultOf, ways}
+use Rattle.play_coverage.specs.Serving.{AreTold, IsBench}
+use Rattle.play_coverage.specs.Tallies.{TellsMore}
+use Rattle.play_coverage.proofs.judging.tell_chunk.Given as goal
+
+-- the faults so far are judged and told, and of those behind them is told what was
+abbrev pub invariant-loop-fault : goal.invariant-loop-fault
+invariant-loop-fault l =
+    let w = wiring l.plan in
+    let program = program_of l.program in
+    let left = drop l.fault-index l.chunk.faults.items in
+    record {
+      bench : IsBench w l.bench;
+      theirs : AllByRecursion (IsFaultOf w.nets) left;
+      told : AreTold program w (flat_map ways left) l.told;
+      tells : TellsMore program w l.listed (take l.fault-index l.chunk.faults.items) l.fn.tally l.tally;
+    }
