@@ -10,8 +10,8 @@ use itoa::Buffer;
 use output_words::Status;
 
 /// Writes the line of a log that does not say how a play ended, `log L1 BadLine line 7`; where it is asked for, a
-/// second line with the place, `at line 7 column 1`, if a line of the log is at fault. Answers the exit status of refused
-/// input, 2.
+/// second line with the place, `at line 7 column 1`, if a line of the log is at fault. Answers the exit status of
+/// refused input, 2.
 ///
 /// `Broken` comes exactly where the writer's first failure came in this call.
 pub fn refuse_log<E: Sink>(
