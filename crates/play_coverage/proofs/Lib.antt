@@ -1,9 +1,7 @@
+pub mod Caught
 pub mod Marks
 pub mod Counting
 pub mod Tallying
 pub mod NetsKept
+pub mod Passing
 pub mod VerdictLines
-pub mod OnePlay
-pub mod Plain
-pub mod Putting
-pub mod Quiet

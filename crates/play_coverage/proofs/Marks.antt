@@ -3,7 +3,7 @@ use Rattle.std.proofs.Common.{◌≡◌, ◌<◌, ◌+◌, ℕ, zero, suc, Bool,
 use Rattle.std.specs.Prelude.{if◌then◌else◌, option_map, slice_get, Some}
 use Rattle.std.proofs.lemmas.Option.{same_Some}
 use Rattle.std.proofs.Math.Seq.{drop-cons}
-use Rattle.std.proofs.lemmas.List.{drop-set-lt, take_more, take_more_set, map-append}
+use Rattle.std.proofs.lemmas.List.{drop-set-lt, take_more, take_more_set}
 use Rattle.play_coverage.specs.declared.contending.Contention.{Contention}
 use Rattle.play_coverage.specs.Contending.{contention, either, newly}
 

@@ -1,9 +1,6 @@
 -- What is told of judged faults, with one more.
-use Rattle.std.proofs.Common.{◌≡◌, ◌+◌, ℕ, Bool, true, false, List, [], ◌∷◌, ◌++◌, length, take, refl, sym, ap, ◌∙◌, append_assoc}
+use Rattle.std.proofs.Common.{◌≡◌, ◌+◌, ℕ, Bool, true, false, List, [], ◌∷◌, ◌++◌, length, refl, sym, ap, ◌∙◌, append_assoc}
 use Rattle.std.specs.Prelude.{flat_map, if◌then◌else◌, OnOk, Result, Ok, Err}
-use Rattle.std.specs.List.{filter}
-use Rattle.std.proofs.lemmas.List.{append-nil}
-use Rattle.output_words.specs.declared.status.Status.{Status}
 use Rattle.output_words.specs.declared.status.Status.TheVariants as exits
 use Rattle.board_plan.specs.Planned.{Wiring}
 use Rattle.board_faults.specs.declared.judging.Judged.{Judged}

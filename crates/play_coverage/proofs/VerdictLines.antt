@@ -12,7 +12,8 @@ use Rattle.play_model.specs.declared.ending.Ending.{Ending}
 use Rattle.play_model.specs.declared.ending.Ending.TheVariants.{Pass, Fail, Lost, BadAnswer}
 use Rattle.play_model.specs.Endings.{status_of, verdict_line}
 use Rattle.play_model.specs.Play.{play}
-use Rattle.play_coverage.specs.Covering.{Covers, CoversFrom, IsCover, Tells}
+use Rattle.fault_serving.specs.Written.{Tells}
+use Rattle.play_coverage.specs.Covering.{Covers, CoversFrom, IsCover}
 
 other : (program : Program) (w : Wiring) (listed : Bool) (e : Ending) → (e ≡ Pass → ⊥) → CoversFrom program w listed e (verdict_line e) (status_of e)
 other program w listed Pass not = absurd (not refl)

@@ -1,13 +1,8 @@
 -- What a program would miss on a board: what is printed, and the exit status.
-use Rattle.std.specs.Prelude.{◌≡◌, Bool, ℕ, List, Option, Result, Ok, Err}
-use Rattle.std.specs.Io.KnownBytes.{Appends}
-use Rattle.byte_streams.specs.Counts.{CountedView}
-use Rattle.byte_streams.specs.Writes.{AppendsFront}
+use Rattle.std.specs.Prelude.{◌≡◌, Bool, ℕ, List}
 use Rattle.output_words.specs.Statuses.{number}
 use Rattle.svf_programs.specs.Steps.{Program}
 use Rattle.board_plan.specs.Planned.{Wiring}
-use Rattle.board_description.specs.declared.whole.Untold.{Untold}
-use Rattle.board_description.specs.declared.whole.Untold.TheVariants.{Broken, NoMemory}
 use Rattle.board_faults.specs.Made.{board_of}
 use Rattle.play_model.specs.declared.ending.Ending.{Ending}
 use Rattle.play_model.specs.declared.ending.Ending.TheVariants.{Pass, Fail, Lost, BadAnswer}
@@ -40,14 +35,3 @@ CoversFrom program w listed (BadAnswer command byte) out status = Fails (BadAnsw
 -- What is printed, and the exit status: by how the program's play on the board itself ends, from power-up.
 abbrev pub IsCover : Program → Wiring → (listed : Bool) → (out : List ℕ) → (status : ℕ) → Type 0
 IsCover program w listed out status = CoversFrom program w listed (play program (board_of w)).ending out status
-
--- All of what is printed so was written, and this is the status; or memory ran out, and nothing was; or the writer's
--- first loss came, and a front part of it was.
-abbrev pub Tells : {W : Type 0} → (W → Option (List ℕ)) → CountedView W → CountedView W
-    → ((out : List ℕ) (status : ℕ) → Type 0) → Result ℕ Untold → Type 0
-Tells contents old new Prints (Ok status) =
-    (out : List ℕ) × Prints out status × (new.failures ≡ 0) × Appends (contents old.inner) (contents new.inner) out
-Tells contents old new Prints (Err NoMemory) = new ≡ old
-Tells contents old new Prints (Err Broken) =
-    (out : List ℕ) × (status : ℕ) × Prints out status × (new.failures ≡ 1)
-    × AppendsFront (contents old.inner) (contents new.inner) out

@@ -2,7 +2,5 @@ pub mod Contending
 pub mod Covering
 pub mod Lines
 pub mod Rows
-pub mod Serving
 pub mod Told
 pub mod Tallies
-pub mod Planes

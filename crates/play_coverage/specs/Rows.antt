@@ -1,7 +1,6 @@
--- Lines and marks worked out, and what a bridge tells: of a net N with a pull up, and a net M.
-use Rattle.std.specs.Prelude.{◌≡◌, Bool, true, false, not, ℕ, List, [], ◌∷◌, codes, Some, None}
+-- Lines and marks worked out: of a net N with a pull up, and a net M.
+use Rattle.std.specs.Prelude.{◌≡◌, true, false, List, [], ◌∷◌, codes}
 use Rattle.scan_vectors.specs.declared.part.Part.TheVariants.{Data}
-use Rattle.board_plan.specs.Planned.{Wiring}
 use Rattle.play_model.specs.declared.ending.Ending.TheVariants.{Pass, Fail}
 use Rattle.board_faults.specs.declared.judging.JudgedWay.{JudgedWay}
 use Rattle.board_faults.specs.declared.judging.Verdict.{Verdict}
@@ -11,18 +10,12 @@ use Rattle.board_faults.specs.declared.kinds.Way.{Way}
 use Rattle.board_faults.specs.declared.kinds.Way.TheVariants as way
 use Rattle.board_faults.specs.declared.kinds.Winner.TheVariants.{Zeros, Ones, First, Second}
 use Rattle.board_faults.specs.Rows.{nets}
-use Rattle.pin_nets.specs.declared.Pull.TheVariants.{Free}
 use Rattle.output_words.specs.declared.status.Status.TheVariants as exits
-use Rattle.fault_events.specs.declared.differing.Pulls.{Pulls}
-use Rattle.fault_events.specs.declared.notes.Note.{Note}
+use Rattle.fault_serving.specs.Rows.{board}
 use Rattle.play_coverage.specs.declared.outcomes.Outcome.TheVariants as outcome
 use Rattle.play_coverage.specs.Contending.{either, newly}
 use Rattle.play_coverage.specs.Lines.{comes_to, contention_words, loops_line, missed_ways, way_line}
-use Rattle.play_coverage.specs.Planes.{tells}
 use Rattle.play_coverage.specs.Tallies.{status_by}
-
-abbrev pub board : Wiring
-board = record { members = []; nets = nets }
 
 abbrev pub judged : Way → Verdict → JudgedWay
 judged its_way verdict = record { way = its_way; verdict = verdict }
@@ -38,20 +31,6 @@ bridge =
 
 abbrev pub quiet : List JudgedWay
 quiet = judged (way.Short 0 1 Zeros) Invisible ∷ judged (way.Short 0 1 Ones) (Played Pass) ∷ []
-
--- a net that is driven to a bit, and is wanted at this place of the data
-abbrev pub driving : Bool → (place : ℕ) → Note
-driving bit place = record {
-  made = record { zero = not bit; one = bit; weak = false };
-  first = Some (record { index = place; part = Data; bit = place });
-  stays = false;
-}
-
-abbrev pub unpulled : Pulls
-unpulled = record { first = Free; second = Free }
-
-abbrev pub wired_and : Way
-wired_and = way.Short 0 1 Zeros
 
 pub record CoverRows : Type 0 where
   pub caught : way_line board (fault.Short 0 1) (judged (way.Short 0 1 First) failing)
@@ -71,12 +50,5 @@ pub record CoverRows : Type 0 where
   -- of three nets the first was marked before, and the first two are now
   pub newly_marked : newly 0 (true ∷ false ∷ false ∷ []) (true ∷ true ∷ false ∷ []) ≡ 1 ∷ []
   pub marked : either (true ∷ false ∷ false ∷ []) (false ∷ true ∷ false ∷ []) ≡ true ∷ true ∷ false ∷ []
-  -- a wired and turns the 1 of its first net, where that is wanted or stays
-  pub tells_something : tells wired_and unpulled (driving true 3) (driving false 5) ≡ true
-  pub tells_nothing : tells wired_and unpulled (record (driving true 3) { first = None }) (driving false 5) ≡ false
-  pub tells_by_what_stays :
-      tells wired_and unpulled (record (driving true 3) { first = None; stays = true }) (driving false 5) ≡ true
-  -- both nets show the same already
-  pub tells_nothing_new : tells wired_and unpulled (driving true 3) (driving true 5) ≡ false
   pub a_miss : status_by [] 1 ≡ exits.Fail
   pub no_miss : status_by [] 0 ≡ exits.Pass

@@ -75,6 +75,11 @@ counts_with c k j = record {
   invisible = c.invisible + one_if (is_counted k outcome.Invisible j);
 }
 
+-- ---- so many bridges more that are caught
+
+abbrev pub with_caught : Tally → ℕ → Tally
+with_caught t n = record t { shorts = record t.shorts { caught = t.shorts.caught + n } }
+
 -- ---- the line of a kind, by its counts
 
 abbrev pub counts_line : FaultKind → Counts → List ℕ

@@ -1,24 +1,28 @@
 //! What a program makes of faults, one after another.
 
-ghost use Rattle.std.specs.Prelude.{◌≡◌, flat_map, option_map, slice_index_or, None, IfOk, OnOk};
+ghost use Rattle.std.specs.Prelude.{◌≡◌, true, flat_map, option_map, IfOk, OnOk};
 ghost use Rattle.std.specs.List.{AllByRecursion};
 ghost use Rattle.svf_programs.specs.Sizes.{program_of};
 ghost use Rattle.board_plan.specs.View.{wiring};
 ghost use Rattle.board_faults.specs.Faults.{IsFaultOf, IsWayOf, ways};
 ghost use Rattle.board_faults.specs.Faulty.{CanBeJudged};
 ghost use Rattle.board_faults.specs.Judging.{JudgesFault, JudgesWayWith};
+ghost use Rattle.board_faults.specs.Listing.{left_of};
 ghost use Rattle.board_faults.specs.Made.{IsReadyPlan};
-ghost use Rattle.play_coverage.specs.Serving.{AreTold, IsBench, IsToldOf};
+ghost use Rattle.fault_serving.specs.Caught.{IsSifted};
+ghost use Rattle.fault_serving.specs.Serving.{AreTold, IsToldOf, MayServe};
 ghost use Rattle.play_coverage.specs.Tallies.{TellsFaults, TellsMore};
-ghost use Rattle.play_coverage.specs.Told.{JudgesPassed};
+ghost use Rattle.play_coverage.specs.Told.{IsBench, JudgesPassed};
 
-use crate::serving::{Chunk, next_chunk, serving_of, told_behind};
-use crate::tallies::{Tally, tally_behind, tell};
+use crate::tallies::{Tally, count_caught, tally_behind, tell};
 use board_faults::{
     Fault, Faults, Judged, JudgedWay, Sights, Verdict, Way, bench_of, is_invisible, judge_way,
     sights_of,
 };
 use board_plan::Plan;
+use fault_serving::{
+    Chunk, Serving, Sifted, next_chunk, next_sifted, serving_of, told_at, told_behind,
+};
 use play_model::Ending;
 use std::alloc::{AllocError, Global};
 use svf_programs::Program;
@@ -58,17 +62,52 @@ pub(crate) fn tell_faults(
     requires { IsReadyPlan plan.now }
     ensures { IfOk result (TellsFaults (program_of program.now) (wiring plan.now) text.items listed) }
 {
+    // For the proof alone: what the type keeps of a program's steps.
+    let _ = program.len();
     let mut bench = bench_for(alloc, plan)?;
     let serving = serving_of(alloc, plan, program)?;
     let mut tally = tally_behind(text);
     let mut left = Faults::of(&plan.nets);
     'chunks: loop {
-        let chunk = next_chunk(alloc, &serving, plan, program, &mut left)?;
-        if chunk.faults.is_empty() {
+        let next = next_faults(alloc, &serving, plan, program, listed, &mut left)?;
+        tell_chunk(
+            alloc,
+            &mut bench,
+            plan,
+            program,
+            listed,
+            &next.chunk,
+            &mut tally,
+        )?;
+        count_caught(&mut tally, next.caught)?;
+        if next.chunk.faults.is_empty() {
             return Ok(tally);
         }
-        tell_chunk(alloc, &mut bench, plan, program, listed, &chunk, &mut tally)?;
     }
+}
+
+/// The next of the faults that are left, and what one play tells of them; where they are not listed, bridges that are
+/// caught in each of their ways are only counted, where the first captures tell that.
+fn next_faults(
+    alloc: Global,
+    serving: &Serving,
+    plan: &Plan,
+    program: &Program,
+    listed: bool,
+    left: &mut Faults<'_>,
+) -> Result<Sifted, AllocError>
+    requires ready { IsReadyPlan plan.now }
+    requires serving { MayServe (program_of program.now) (wiring plan.now) serving.now }
+    requires faults { AllByRecursion (IsFaultOf (wiring plan.now).nets) (left_of left.old) }
+    ensures sifted { IfOk result (λ s. IsSifted (program_of program.now) (wiring plan.now) (left_of left.old) s
+        (left_of left.new)) }
+    ensures all { IfOk result (λ s. listed ≡ true → s.caught ≡ 0) }
+{
+    if !listed {
+        return next_sifted(alloc, serving, plan, program, left);
+    }
+    let chunk = next_chunk(alloc, serving, plan, program, left)?;
+    Ok(Sifted { caught: 0, chunk })
 }
 
 /// Tells some faults more.
@@ -134,16 +173,6 @@ pub fn judge_fault(
         k += 1;
     }
     Ok(Some(ways))
-}
-
-/// What is told of the k-th way.
-pub fn told_at(told: &[Option<Ending>], k: usize) -> Option<Ending>
-    ensures { result ≡ slice_index_or told.now k None }
-{
-    match told.get(k) {
-        Some(ending) => *ending,
-        None => None,
-    }
 }
 
 /// What a program makes of a way of a fault, given how it ends if that is told; nothing where it has no meaning.

@@ -8,8 +8,6 @@ mod contending;
 mod covering;
 mod judging;
 mod outcomes;
-mod planing;
-mod serving;
 mod tallies;
 mod totals;
 mod ways;
@@ -17,10 +15,8 @@ mod words;
 
 pub use contending::{Contention, contentions};
 pub use covering::write_cover;
-pub use judging::{Bench, bench_for, judge_fault, told_at};
+pub use judging::{Bench, bench_for, judge_fault};
 pub use outcomes::{FaultKind, Outcome};
-pub use serving::{Chunk, Serving, Telling, next_chunk, serving_of, told_behind};
-pub use words::{put_fault, put_way};
 
 /// The lines of some faults, worked out.
 pub fn covers_compute()

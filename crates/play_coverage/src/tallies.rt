@@ -6,7 +6,7 @@ ghost use Rattle.board_plan.specs.Planned.{Wiring};
 ghost use Rattle.board_plan.specs.View.{wiring};
 ghost use Rattle.play_coverage.specs.Lines.{is_loop};
 ghost use Rattle.play_coverage.specs.Tallies as spec;
-ghost use Rattle.play_coverage.specs.Tallies.{IsTally, counts_with, line_told, next_told, one_if};
+ghost use Rattle.play_coverage.specs.Tallies.{IsTally, counts_with, line_told, next_told, one_if, with_caught};
 
 use crate::outcomes::{FaultKind, Outcome, has_come, is_counted};
 use crate::ways::{put_each_way, put_missed_line};
@@ -137,6 +137,14 @@ fn count_in(counts: Counts, kind: FaultKind, judged: &Judged) -> Result<Counts, 
             is_counted(kind, Outcome::Invisible, judged),
         )?,
     })
+}
+
+/// Counts so many bridges more that are caught. Refused where the count does not fit.
+pub(crate) fn count_caught(tally: &mut Tally, caught: usize) -> Result<(), AllocError>
+    ensures { OnOk result (tally.new ≡ with_caught tally.old caught) }
+{
+    tally.shorts.caught = tally.shorts.caught.checked_add(caught).ok_or(AllocError)?;
+    Ok(())
 }
 
 /// One more where it is so. Refused where that does not fit.

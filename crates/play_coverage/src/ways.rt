@@ -7,9 +7,10 @@ ghost use Rattle.play_coverage.specs.Lines.{fault_lines, missed_line, missed_way
 ghost use Rattle.play_coverage.specs.Lines.{way_line};
 
 use crate::outcomes::{all_missed, is_passed};
-use crate::words::{put_failing, put_fault, put_way, verdict_word};
+use crate::words::{put_failing, verdict_word};
 use board_faults::{Fault, Judged, JudgedWay};
 use board_plan::Plan;
+use fault_serving::{put_fault, put_way};
 use output_words::put;
 use std::alloc::AllocError;
 

@@ -7,7 +7,7 @@ use Rattle.play_model.specs.declared.ending.Ending.{Ending}
 use Rattle.board_faults.specs.declared.kinds.Way.{Way}
 use Rattle.board_faults.specs.Judging.{wiring_with}
 use Rattle.board_faults.specs.Made.{board_of}
-use Rattle.play_coverage.specs.Serving.{IsToldOf}
+use Rattle.fault_serving.specs.Serving.{IsToldOf}
 use Rattle.play_diagnosis.specs.Ended.{by_told}
 use Rattle.play_diagnosis.specs.Fitting.{Fits}
 use Rattle.play_diagnosis.specs.Reading.{Verdict}

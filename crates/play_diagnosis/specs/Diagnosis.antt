@@ -9,7 +9,7 @@ use Rattle.svf_programs.specs.Steps.{Program}
 use Rattle.board_plan.specs.Planned.{Wiring}
 use Rattle.board_faults.specs.declared.kinds.Fault.{Fault}
 use Rattle.board_faults.specs.Faults.{faults}
-use Rattle.play_coverage.specs.Lines.{fault_words, way_words}
+use Rattle.fault_serving.specs.Words.{fault_words, way_words}
 use Rattle.play_diagnosis.specs.declared.fitting.TriedWay.{TriedWay}
 use Rattle.play_diagnosis.specs.Fitting.{TriesFault}
 use Rattle.play_diagnosis.specs.Reading.{Verdict}

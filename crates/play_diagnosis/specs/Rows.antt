@@ -16,7 +16,7 @@ use Rattle.board_faults.specs.declared.kinds.Fault.TheVariants as fault
 use Rattle.board_faults.specs.declared.kinds.Way.{Way}
 use Rattle.board_faults.specs.declared.kinds.Way.TheVariants as way
 use Rattle.board_faults.specs.declared.kinds.Winner.TheVariants.{Zeros, Ones, First, Second}
-use Rattle.play_coverage.specs.Rows.{board}
+use Rattle.fault_serving.specs.Rows.{board}
 use Rattle.play_diagnosis.specs.declared.fitting.TriedWay.{TriedWay}
 use Rattle.play_diagnosis.specs.declared.lines.Line.TheVariants as line
 use Rattle.play_diagnosis.specs.declared.reading.LogFault.TheVariants.{BadLine, NoVerdict, NoSuchBit, TooLarge, Empty}

@@ -17,10 +17,6 @@ returns c = record {
   no_loops = refl;
   newly_marked = refl;
   marked = refl;
-  tells_something = refl;
-  tells_nothing = refl;
-  tells_by_what_stays = refl;
-  tells_nothing_new = refl;
   a_miss = refl;
   no_miss = refl;
 }

@@ -8,8 +8,8 @@ use Rattle.board_faults.specs.declared.kinds.Way.{Way}
 use Rattle.board_faults.specs.Faults.{ways}
 use Rattle.board_faults.specs.Judging.{JudgesEach, JudgesWayWith}
 use Rattle.board_faults.proofs.JudgingLaws.{among_slice, judges_more}
-use Rattle.play_coverage.specs.Serving.{IsToldOf}
-use Rattle.play_coverage.proofs.OnePlay.{told_there}
+use Rattle.fault_serving.specs.Serving.{IsToldOf}
+use Rattle.fault_serving.proofs.OnePlay.{told_there}
 use Rattle.play_coverage.proofs.judging.judge_fault.Goals as goal
 
 pub verdict_of-requires-clause-told : goal.verdict_of-requires-clause-told

@@ -3,7 +3,7 @@ use Rattle.svf_programs.specs.Sizes.{program_of}
 use Rattle.board_plan.specs.View.{wiring}
 use Rattle.board_faults.specs.Faults.{ways}
 use Rattle.board_faults.specs.Judging.{JudgesEach}
-use Rattle.play_coverage.specs.Serving.{IsBench}
+use Rattle.play_coverage.specs.Told.{IsBench}
 use Rattle.play_coverage.proofs.judging.judge_fault.Given as goal
 
 -- the first ways are judged

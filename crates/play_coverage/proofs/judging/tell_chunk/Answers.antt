@@ -12,9 +12,9 @@ use Rattle.board_faults.specs.Faults.{IsFaultOf, ways}
 use Rattle.board_faults.specs.Judging.{JudgesAll}
 use Rattle.board_faults.proofs.JudgingLaws.{faults_more}
 use Rattle.fault_events.proofs.Resting.{path_next}
-use Rattle.play_coverage.specs.Serving.{AreTold}
+use Rattle.fault_serving.specs.Serving.{AreTold}
 use Rattle.play_coverage.specs.Tallies.{IsTally}
-use Rattle.play_coverage.proofs.OnePlay.{told_first, told_rest}
+use Rattle.fault_serving.proofs.OnePlay.{told_first, told_rest}
 use Rattle.play_coverage.proofs.judging.tell_chunk.Goals as goal
 
 pub loop-fault-init : goal.loop-fault-init

@@ -1,12 +1,12 @@
-use Rattle.std.proofs.Common.{◌≡◌, ◌++◌, ℕ, List, drop, take}
+use Rattle.std.proofs.Common.{drop, take}
 use Rattle.std.specs.Prelude.{flat_map}
 use Rattle.std.specs.List.{AllByRecursion}
 use Rattle.svf_programs.specs.Sizes.{program_of}
 use Rattle.board_plan.specs.View.{wiring}
-use Rattle.board_faults.specs.declared.judging.Judged.{Judged}
 use Rattle.board_faults.specs.Faults.{IsFaultOf, ways}
-use Rattle.play_coverage.specs.Serving.{AreTold, IsBench}
+use Rattle.fault_serving.specs.Serving.{AreTold}
 use Rattle.play_coverage.specs.Tallies.{TellsMore}
+use Rattle.play_coverage.specs.Told.{IsBench}
 use Rattle.play_coverage.proofs.judging.tell_chunk.Given as goal
 
 -- the faults so far are judged and told, and of those behind them is told what was

@@ -1,16 +1,19 @@
-use Rattle.std.proofs.Common.{◌≡◌, ◌++◌, [], List, length, map, refl, sym, ap, subst, ◌∙◌, append_assoc, arith}
+use Rattle.std.proofs.Common.{◌≡◌, ◌++◌, [], List, map, sym, ap, subst, ◌∙◌, append_assoc}
 use Rattle.std.specs.List.{AllByRecursion}
-use Rattle.std.proofs.lemmas.List.{append-nil, length-append}
+use Rattle.std.proofs.lemmas.List.{append-nil}
 use Rattle.svf_programs.specs.Sizes.{program_of}
 use Rattle.board_plan.specs.declared.plan.PlannedNet.{PlannedNet}
 use Rattle.board_plan.specs.View.{net as planned_net, wiring}
-use Rattle.board_faults.specs.declared.judging.Judged.{Judged}
 use Rattle.board_faults.specs.declared.kinds.Fault.{Fault}
 use Rattle.board_faults.specs.Faults.{IsFaultOf, faults}
+use Rattle.board_faults.specs.Faulty.{CanBeJudged}
 use Rattle.board_faults.specs.Judging.{JudgesAll}
 use Rattle.board_faults.specs.Listing.{left_of}
 use Rattle.board_faults.proofs.JudgingLaws.{every_fault}
-use Rattle.play_coverage.proofs.OnePlay.{judges_join, none_there, some_less, some_there}
+use Rattle.fault_serving.specs.Caught.{IsCaught}
+use Rattle.fault_serving.proofs.OnePlay.{judges_join, none_there, some_less, some_there}
+use Rattle.fault_serving.proofs.Sifting.{some_kept}
+use Rattle.play_coverage.proofs.Caught.{told_with}
 use Rattle.play_coverage.proofs.judging.tell_faults.Goals as goal
 
 pub chunks-init : goal.chunks-init
@@ -32,44 +35,62 @@ chunks-init c =
 pub tell_chunk-requires-clause-may : goal.tell_chunk-requires-clause-may
 tell_chunk-requires-clause-may c = record { ready = c.requires.powers_up.ready; sound = c.requires.powers_up.sound; counted = c.requires.counted }
 
-pub next_chunk-requires-clause-faults : goal.next_chunk-requires-clause-faults
-next_chunk-requires-clause-faults c = c.chunks.invariant.theirs
+pub next_faults-requires-clause-faults : goal.next_faults-requires-clause-faults
+next_faults-requires-clause-faults c = c.chunks.invariant.theirs
 
-pub next_chunk-requires-clause-serving : goal.next_chunk-requires-clause-serving
-next_chunk-requires-clause-serving c = c.chunks.invariant.serving
+pub next_faults-requires-clause-serving : goal.next_faults-requires-clause-serving
+next_faults-requires-clause-serving c = c.chunks.invariant.serving
 
 pub returns-then-is_empty : goal.returns-then-is_empty
 returns-then-is_empty c =
+    let program = program_of c.args.program.now in
     let w = wiring c.args.plan.now in
+    let can : CanBeJudged w = record { ready = c.requires.powers_up.ready; sound = c.requires.powers_up.sound; counted = c.requires.counted } in
     let i = c.chunks.invariant in
-    let none : left_of c.chunks.left ≡ [] = c.in_ok-chunk.ensures.next.over
-    (none_there c.in_ok-chunk.chunk.faults.items _ c.is_empty.result c.is_empty.ensures c.in_ok-chunk.chunk.faults.ok.0 c.if-is_empty.true) in
+    let fs = c.in_ok-next.next.chunk.faults.items in
+    let it = c.in_ok-next.ensures.sifted.sifts in
+    let n = c.in_ok-next.next.caught in
+    let some = c.in_ok-tell_chunk.ensures.tells c.args.text.items i.judged i.tells in
+    let more = told_with program c.len.ensures.sound.legal w can c.args.text c.args.listed c.args.text.items i.judged some.0 it.first fs n
+    c.tell_chunk.new.tally c.count_caught.new.tally c.in_ok-next.ensures.all it.sifted some.1 some.2 c.in_ok-count_caught.ensures in
+    let none : left_of c.next_faults.new.left ≡ [] = it.over
+    (none_there fs _ c.is_empty.result c.is_empty.ensures c.in_ok-next.next.chunk.faults.ok.0 c.if-is_empty.true) in
+    let all : faults w.nets ≡ i.done ++ it.first =
+    i.all ∙ ap (λ (l : List Fault). i.done ++ l) (it.are ∙ ap (λ (l : List Fault). it.first ++ l) none ∙ append-nil it.first) in
     record {
-      judged = i.judged;
-      judges = subst (λ (fs : List Fault). JudgesAll (program_of c.args.program.now) w fs i.judged)
-          (sym (i.all ∙ ap (λ (l : List Fault). i.done ++ l) none ∙ append-nil i.done)) i.judges;
-      tells = i.tells;
+      judged = i.judged ++ more.0;
+      judges = subst (λ (l : List Fault). JudgesAll program w l (i.judged ++ more.0)) (sym all)
+          (judges_join program w i.done it.first i.judged more.0 i.judges more.1);
+      tells = more.2;
     }
 
 pub chunks-preserved : goal.chunks-preserved
 chunks-preserved c =
+    let program = program_of c.args.program.now in
     let w = wiring c.args.plan.now in
+    let can : CanBeJudged w = record { ready = c.requires.powers_up.ready; sound = c.requires.powers_up.sound; counted = c.requires.counted } in
     let i = c.chunks.invariant in
-    let chunk = c.in_ok-chunk.ensures in
-    let fs = c.in_ok-chunk.chunk.faults.items in
-    let more = c.in_ok-tell_chunk.ensures.tells c.args.text.items i.judged i.tells in
+    let fs = c.in_ok-next.next.chunk.faults.items in
+    let it = c.in_ok-next.ensures.sifted.sifts in
+    let n = c.in_ok-next.next.caught in
+    let some = c.in_ok-tell_chunk.ensures.tells c.args.text.items i.judged i.tells in
+    let more = told_with program c.len.ensures.sound.legal w can c.args.text c.args.listed c.args.text.items i.judged some.0 it.first fs n
+    c.tell_chunk.new.tally c.count_caught.new.tally c.in_ok-next.ensures.all it.sifted some.1 some.2 c.in_ok-count_caught.ensures in
     record {
-      done = i.done ++ fs;
+      done = i.done ++ it.first;
       judged = i.judged ++ more.0;
-      all = i.all ∙ ap (λ (l : List Fault). i.done ++ l) chunk.next.are ∙ sym (append_assoc i.done fs (left_of c.next_chunk.new.left));
-      theirs = chunk.others;
+      all = i.all ∙ ap (λ (l : List Fault). i.done ++ l) it.are ∙ sym (append_assoc i.done it.first (left_of c.next_faults.new.left));
+      theirs = c.in_ok-next.ensures.sifted.others;
       serving = i.serving;
       bench = c.in_ok-tell_chunk.ensures.bench;
-      judges = judges_join (program_of c.args.program.now) w i.done fs i.judged more.0 i.judges more.1;
+      judges = judges_join program w i.done it.first i.judged more.0 i.judges more.1;
       tells = more.2;
     }
 
 pub chunks-smaller : goal.chunks-smaller
 chunks-smaller c =
-    some_less (left_of c.chunks.left) c.in_ok-chunk.chunk.faults.items (left_of c.next_chunk.new.left) c.in_ok-chunk.ensures.next.are
-    (some_there c.in_ok-chunk.chunk.faults.items _ c.is_empty.result c.is_empty.ensures c.in_ok-chunk.chunk.faults.ok.0 c.if-is_empty.false)
+    let it = c.in_ok-next.ensures.sifted.sifts in
+    let fs = c.in_ok-next.next.chunk.faults.items in
+    some_less (left_of c.chunks.left) it.first (left_of c.next_faults.new.left) it.are
+    (some_kept (IsCaught (program_of c.args.program.now) (wiring c.args.plan.now)) it.first fs c.in_ok-next.next.caught it.sifted
+    (some_there fs _ c.is_empty.result c.is_empty.ensures c.in_ok-next.next.chunk.faults.ok.0 c.if-is_empty.false))

@@ -1,4 +1,4 @@
-use Rattle.std.proofs.Common.{◌≡◌, ◌++◌, List, length, map}
+use Rattle.std.proofs.Common.{◌≡◌, ◌++◌, List, length}
 use Rattle.std.specs.List.{AllByRecursion}
 use Rattle.svf_programs.specs.Sizes.{program_of}
 use Rattle.board_plan.specs.View.{wiring}
@@ -7,8 +7,9 @@ use Rattle.board_faults.specs.declared.kinds.Fault.{Fault}
 use Rattle.board_faults.specs.Faults.{IsFaultOf, faults}
 use Rattle.board_faults.specs.Judging.{JudgesAll}
 use Rattle.board_faults.specs.Listing.{left_of}
-use Rattle.play_coverage.specs.Serving.{IsBench, MayServe}
+use Rattle.fault_serving.specs.Serving.{MayServe}
 use Rattle.play_coverage.specs.Tallies.{IsTally}
+use Rattle.play_coverage.specs.Told.{IsBench}
 use Rattle.play_coverage.proofs.judging.tell_faults.Given as goal
 
 -- the faults so far are judged and told

@@ -2,8 +2,9 @@ use Rattle.std.proofs.Common.{Some, subst}
 use Rattle.svf_programs.specs.Sizes.{program_of}
 use Rattle.board_plan.specs.View.{wiring}
 use Rattle.play_model.specs.declared.ending.Ending.{Ending}
-use Rattle.play_coverage.specs.Serving.{IsToldOf}
-use Rattle.play_coverage.proofs.OnePlay.{told_other, told_passed}
+use Rattle.fault_serving.specs.Serving.{IsToldOf}
+use Rattle.fault_serving.proofs.OnePlay.{told_other}
+use Rattle.play_coverage.proofs.Passing.{told_passed}
 use Rattle.play_coverage.proofs.judging.verdict_of.Goals as goal
 
 pub returns-in_ok-passed_verdict-in-Pass-clause-judged : goal.returns-in_ok-passed_verdict-in-Pass-clause-judged

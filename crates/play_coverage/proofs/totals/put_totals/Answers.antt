@@ -1,6 +1,5 @@
-use Rattle.std.proofs.Common.{◌++◌, ℕ, List, ap}
-use Rattle.std.specs.Prelude.{Ok, Err}
-use Rattle.board_description.proofs.TextLaws.{OnOk-behind, OnOk-is}
+use Rattle.std.proofs.Common.{◌++◌}
+use Rattle.board_description.proofs.TextLaws.{OnOk-behind}
 use Rattle.play_coverage.specs.declared.outcomes.FaultKind.TheVariants as kind
 use Rattle.play_coverage.specs.Lines.{loops_line}
 use Rattle.play_coverage.specs.Tallies.{counts_line}

@@ -9,8 +9,8 @@ use Rattle.board_faults.specs.declared.kinds.Fault.{Fault}
 use Rattle.board_faults.specs.declared.kinds.Fault.TheVariants as fault
 use Rattle.board_faults.specs.Faults.{IsFaultOf, ways}
 use Rattle.fault_events.proofs.Resting.{path_next}
-use Rattle.play_coverage.specs.Serving.{AreTold}
-use Rattle.play_coverage.proofs.OnePlay.{told_first, told_rest}
+use Rattle.fault_serving.specs.Serving.{AreTold}
+use Rattle.fault_serving.proofs.OnePlay.{told_first, told_rest}
 use Rattle.play_diagnosis.specs.Diagnosis.{TellsFaults}
 use Rattle.play_diagnosis.specs.Reading.{verdict_of}
 use Rattle.play_diagnosis.proofs.Tried.{tells_more}

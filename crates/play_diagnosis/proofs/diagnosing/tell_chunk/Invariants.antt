@@ -4,7 +4,7 @@ use Rattle.std.specs.List.{AllByRecursion}
 use Rattle.svf_programs.specs.Sizes.{program_of}
 use Rattle.board_plan.specs.View.{wiring}
 use Rattle.board_faults.specs.Faults.{IsFaultOf, ways}
-use Rattle.play_coverage.specs.Serving.{AreTold}
+use Rattle.fault_serving.specs.Serving.{AreTold}
 use Rattle.play_diagnosis.specs.Benches.{IsBench}
 use Rattle.play_diagnosis.specs.Diagnosis.{PutsFaults}
 use Rattle.play_diagnosis.specs.Reading.{verdict_of}

@@ -9,7 +9,7 @@ use Rattle.board_faults.specs.declared.kinds.Fault.{Fault}
 use Rattle.board_faults.specs.Faults.{IsFaultOf, faults}
 use Rattle.board_faults.specs.Listing.{left_of}
 use Rattle.board_faults.proofs.JudgingLaws.{every_fault}
-use Rattle.play_coverage.proofs.OnePlay.{none_there, some_less, some_there}
+use Rattle.fault_serving.proofs.OnePlay.{none_there, some_less, some_there}
 use Rattle.play_diagnosis.specs.Diagnosis.{TellsFaults}
 use Rattle.play_diagnosis.specs.Reading.{verdict_of}
 use Rattle.play_diagnosis.proofs.Tried.{tells_join}

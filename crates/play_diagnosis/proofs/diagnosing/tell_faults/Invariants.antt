@@ -5,7 +5,7 @@ use Rattle.board_plan.specs.View.{wiring}
 use Rattle.board_faults.specs.declared.kinds.Fault.{Fault}
 use Rattle.board_faults.specs.Faults.{IsFaultOf, faults}
 use Rattle.board_faults.specs.Listing.{left_of}
-use Rattle.play_coverage.specs.Serving.{MayServe}
+use Rattle.fault_serving.specs.Serving.{MayServe}
 use Rattle.play_diagnosis.specs.Benches.{IsBench}
 use Rattle.play_diagnosis.specs.Diagnosis.{TellsFaults}
 use Rattle.play_diagnosis.specs.Reading.{verdict_of}

@@ -9,8 +9,8 @@ use Rattle.play_diagnosis.specs.declared.fitting.TriedWay.{TriedWay}
 use Rattle.play_diagnosis.specs.Fitting.{TriesEach}
 use Rattle.play_diagnosis.specs.Reading.{verdict_of}
 use Rattle.play_diagnosis.proofs.Tried.{tries_more}
-use Rattle.play_coverage.specs.Serving.{IsToldOf}
-use Rattle.play_coverage.proofs.OnePlay.{told_there}
+use Rattle.fault_serving.specs.Serving.{IsToldOf}
+use Rattle.fault_serving.proofs.OnePlay.{told_there}
 use Rattle.play_diagnosis.proofs.fitting.try_fault.Goals as goal
 
 pub fits-requires-clause-told : goal.fits-requires-clause-told

@@ -1,0 +1,6 @@
+pub mod Lowest
+pub mod OnePlay
+pub mod Plain
+pub mod Putting
+pub mod Quiet
+pub mod Sifting

@@ -1,0 +1,22 @@
+//! What one play of a program tells of the faults of a board: how the program ends on the board with each, wherever no
+//! bit that stays in a register is another; and what faults are called. On it stand both what a program would miss and
+//! which fault it is that a play found.
+#![tactic(auto)]
+
+ghost use Rattle.fault_serving.specs.Rows.{ServingRows};
+
+mod planing;
+mod serving;
+mod words;
+
+pub use planing::NoteWords;
+pub use serving::{
+    Chunk, Serving, Sifted, Telling, ending_on, next_chunk, next_sifted, serving_of, told_at,
+    told_behind,
+};
+pub use words::{put_fault, put_way};
+
+/// What a bridge tells, worked out.
+pub fn serving_computes()
+    ensures { ServingRows }
+{}

@@ -1,0 +1,206 @@
+//! What is noted of nets, put into words: up to 64 captures at once.
+
+ghost use Rattle.std.specs.Prelude.{◌≡◌, ◌≢◌, ◌<◌, ◌≤◌, ℕ, List, true, false, drop, map, IfOk};
+ghost use Rattle.jt_bits.specs.Packed.{has_bit};
+ghost use Rattle.board_faults.specs.declared.kinds.Way.TheVariants as way;
+ghost use Rattle.board_faults.specs.declared.kinds.Winner.{Winner as TheWinner};
+ghost use Rattle.board_plan.specs.View.{net as planned_net};
+ghost use Rattle.fault_events.specs.declared.notes.Note.{Note as TheNote};
+ghost use Rattle.fault_events.specs.Captures.{Noted};
+ghost use Rattle.fault_events.specs.Marks.{nothing_noted};
+ghost use Rattle.fault_events.specs.Nets.{seen, with_nets_noted};
+ghost use Rattle.fault_serving.specs.Caught.{IsCaughtBy};
+ghost use Rattle.fault_serving.specs.Planes.{AreNetWords, AreQuiet, AreWordsOf, IsFailing, IsNoteAt};
+ghost use Rattle.fault_serving.specs.Planes.{fails_at, stays_at, tells_at};
+
+use board_faults::{DrivenWords, Fault, Winner, bridge_words, differing, joined};
+use board_plan::PlannedNet;
+use fault_events::{NetCapture, Note, Pulls, note_at, pulls_of};
+use std::alloc::{AllocError, Global};
+
+/// What is noted of a net at up to 64 captures, bit `k` of each word at the k-th: what its pins drive together, whether
+/// a wanted bit is taken from one of them, and whether a bit that stays is.
+#[derive(Drop, Clone, Copy)]
+pub struct NoteWords {
+    pub(crate) made: DrivenWords,
+    pub(crate) wanted: u64,
+    pub(crate) stays: u64,
+}
+
+/// Nothing is noted at any capture.
+const NO_NOTES: NoteWords = NoteWords {
+    made: DrivenWords {
+        zero: 0,
+        one: 0,
+        weak: 0,
+    },
+    wanted: 0,
+    stays: 0,
+};
+
+/// Of each of so many nets what is noted at the first 64 captures. Refused where memory runs out.
+pub(crate) fn net_words(
+    alloc: Global,
+    captures: &[NetCapture],
+    count: usize,
+) -> Result<Vec<NoteWords>, AllocError>
+    ensures { IfOk result (λ v. AreNetWords (map seen captures.now) v.items) }
+{
+    let mut all = Vec::with_capacity(alloc, count)?;
+    for net in 0..count {
+        all.push(words_of(captures, net))?;
+    }
+    Ok(all)
+}
+
+/// What is noted of a net at the first 64 captures.
+fn words_of(captures: &[NetCapture], net: usize) -> NoteWords
+    ensures { AreWordsOf net (map seen captures.now) result }
+{
+    let mut words = NO_NOTES;
+    for k in 0..captures.len().min(64) {
+        words = with_note(words, k, note_at(net, &captures[k].nets));
+    }
+    words
+}
+
+/// The words with a note at the k-th capture, at which nothing is noted.
+fn with_note(words: NoteWords, k: usize, note: Note) -> NoteWords
+    requires below { k < 64 }
+    requires free { IsNoteAt k nothing_noted words }
+    ensures here { IsNoteAt k note result }
+    ensures others { (j : ℕ) (n : TheNote) → j < 64 → j ≢ k → IsNoteAt j n words → IsNoteAt j n result }
+{
+    NoteWords {
+        made: DrivenWords {
+            zero: with_bit(words.made.zero, k, note.made.zero),
+            one: with_bit(words.made.one, k, note.made.one),
+            weak: with_bit(words.made.weak, k, note.made.weak),
+        },
+        wanted: with_bit(words.wanted, k, note.first.is_some()),
+        stays: with_bit(words.stays, k, note.stays),
+    }
+}
+
+/// The word with this in the place of bit `k`, which is 0.
+fn with_bit(word: u64, k: usize, bit: bool) -> u64
+    requires below { k < 64 }
+    requires free { has_bit word k ≡ false }
+    ensures here { has_bit result k ≡ bit }
+    ensures others { (j : ℕ) → j < 64 → j ≢ k → has_bit result j ≡ has_bit word j }
+{
+    if bit { word | 1 << k } else { word }
+}
+
+/// At so many of the first captures a bridge tells nothing, by the words of nets; at none where it is none of theirs.
+pub(crate) fn quiet_captures(
+    words: &[NoteWords],
+    nets: &[PlannedNet],
+    first: usize,
+    second: usize,
+    winner: Winner,
+) -> usize
+    ensures { (ns : List Noted) → AreNetWords ns words.now
+        → AreQuiet (map planned_net nets.now) (way.Short first second winner) ns result }
+{
+    let pulls = pulls_of(nets, first, second);
+    if first < words.len() && second < words.len() {
+        return quiet_front(winner, pulls, words[first], words[second]);
+    }
+    0
+}
+
+/// At which captures a bridge tells something: that a wanted bit is another, or that one that stays is.
+#[derive(Drop, Clone, Copy)]
+struct Changes {
+    wanted: u64,
+    stays: u64,
+}
+
+fn changes_of(winner: Winner, pulls: Pulls, one: NoteWords, two: NoteWords) -> Changes
+    ensures wanted { (k : ℕ) → k < 64 → has_bit result.wanted k ≡ fails_at winner pulls one two k }
+    ensures stays { (k : ℕ) → k < 64 → has_bit result.stays k ≡ stays_at winner pulls one two k }
+{
+    let after = bridge_words(
+        winner,
+        joined(pulls.first, pulls.second),
+        one.made,
+        two.made,
+    );
+    let first = differing(pulls.first, one.made, after);
+    let second = differing(pulls.second, two.made, after);
+    Changes {
+        wanted: (first & one.wanted) | (second & two.wanted),
+        stays: (one.stays & first) | (two.stays & second),
+    }
+}
+
+/// At so many of the first captures, up to 64, a bridge tells nothing.
+fn quiet_front(winner: Winner, pulls: Pulls, one: NoteWords, two: NoteWords) -> usize
+    ensures few { result ≤ 64 }
+    ensures quiet { (k : ℕ) → k < result → tells_at winner pulls one two k ≡ false }
+{
+    let changes = changes_of(winner, pulls, one, two);
+    lowest(changes.wanted | changes.stays)
+}
+
+/// Which bit of a word is the lowest that is set; 64 where none is.
+fn lowest(word: u64) -> usize
+    ensures few { result ≤ 64 }
+    ensures none { (k : ℕ) → k < result → (k < 64) × (has_bit word k ≡ false) }
+    ensures set { result < 64 → has_bit word result ≡ true }
+{
+    if word == 0 {
+        return 64;
+    }
+    word.trailing_zeros() as usize
+}
+
+/// Whether the first captures of a play on these nets, by the words of nets, tell of each way of a fault that the
+/// program fails in it. It is answered of bridges alone: any other fault is to be judged way by way.
+pub(crate) fn is_caught(words: &[NoteWords], nets: &[PlannedNet], fault: Fault) -> bool
+    ensures { (ns : List Noted) → AreNetWords (map (with_nets_noted (map planned_net nets.now)) ns) words.now
+        → result ≡ true → IsCaughtBy (map planned_net nets.now) ns fault }
+{
+    let Fault::Short { first, second } = fault else {
+        return false;
+    };
+    if first < words.len() && second < words.len() {
+        let pulls = pulls_of(nets, first, second);
+        return fails_in_each(pulls, words[first], words[second]);
+    }
+    false
+}
+
+/// Whether a bridge fails, whoever wins on it.
+fn fails_in_each(pulls: Pulls, one: NoteWords, two: NoteWords) -> bool
+    ensures { result ≡ true → (winner : TheWinner) → IsFailing winner pulls one two }
+{
+    if fails(Winner::Zeros, pulls, one, two)
+        && fails(Winner::Ones, pulls, one, two)
+        && fails(Winner::First, pulls, one, two)
+    {
+        return fails(Winner::Second, pulls, one, two);
+    }
+    false
+}
+
+/// Whether a wanted bit is another where this one wins, before any that stays is.
+fn fails(winner: Winner, pulls: Pulls, one: NoteWords, two: NoteWords) -> bool
+    ensures { result ≡ true → IsFailing winner pulls one two }
+{
+    let changes = changes_of(winner, pulls, one, two);
+    let at = lowest(changes.wanted);
+    at < 64 && at <= lowest(changes.stays)
+}
+
+/// Captures behind so many.
+pub(crate) fn captures_behind(captures: &[NetCapture], n: usize) -> &[NetCapture]
+    ensures { result.now ≡ drop n captures.now }
+{
+    if n < captures.len() {
+        &captures[n..]
+    } else {
+        &[]
+    }
+}

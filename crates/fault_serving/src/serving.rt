@@ -1,0 +1,386 @@
+//! What one play of a program tells of a board's faults.
+
+ghost use Rattle.std.specs.Prelude.{◌≡◌, ◌<◌, ◌+◌, [], List, drop, length, map, nat_lt, slice_index_or, None, IfOk};
+ghost use Rattle.std.specs.List.{AllByRecursion, list_any};
+ghost use Rattle.svf_programs.specs.Sizes.{program_of};
+ghost use Rattle.board_plan.specs.View.{net as planned_net, wiring};
+ghost use Rattle.play_model.specs.Play.{play};
+ghost use Rattle.board_faults.specs.Faults.{IsFaultOf, IsWayOf};
+ghost use Rattle.board_faults.specs.Listing.{left_of};
+ghost use Rattle.board_faults.specs.Made.{IsReadyPlan, PowersUp, board_of};
+ghost use Rattle.fault_events.specs.Blocks.{noted_in};
+ghost use Rattle.fault_events.specs.Captures as events;
+ghost use Rattle.fault_events.specs.Captures.{Noted};
+ghost use Rattle.fault_events.specs.Endings.{and_then, ending_noted};
+ghost use Rattle.fault_events.specs.Nets.{with_nets_noted};
+ghost use Rattle.fault_serving.specs.Caught.{IsCaughtBy, IsSifted, Sifts};
+ghost use Rattle.fault_serving.specs.Planes.{AreNetWords};
+ghost use Rattle.fault_serving.specs.Serving as spec;
+ghost use Rattle.fault_serving.specs.Serving.{AreTold, IsChunk, IsTelling, MayServe, Serves, endings_by, judged_on};
+
+use crate::planing::{NoteWords, captures_behind, is_caught, net_words, quiet_captures};
+use board_faults::{Board, Fault, Faults, Way, next_faults, play_program, ways_of};
+use board_plan::{Plan, PlannedDevice, PlannedNet};
+use fault_events::{Block, Capture, block_of, net_ending, pulls_of, start_play, way_ending};
+use play_model::Ending;
+use std::alloc::{AllocError, Global};
+use svf_programs::Program;
+
+/// What one play of a program tells of a board's faults.
+#[derive(Drop)]
+pub enum Serving {
+    /// Nothing: the board has strings, or the program fails on it.
+    Nothing,
+    /// What is noted at its captures: they are no more than a block holds.
+    Whole(Telling),
+    /// They are more, so they are noted block by block, in a play for some faults at a time; what is noted of nets at
+    /// the first 64, by words.
+    Blocks(Vec<NoteWords>),
+}
+
+/// A block of captures, and what is noted of nets at the first 64, by words.
+#[derive(Drop)]
+pub struct Telling {
+    pub(crate) block: Block,
+    pub(crate) words: Vec<NoteWords>,
+}
+
+/// What one play of a program tells of the faults of a planned board that powers up (asked). Refused where memory runs
+/// out.
+pub fn serving_of(alloc: Global, plan: &Plan, program: &Program) -> Result<Serving, AllocError>
+    requires { PowersUp plan.now }
+    ensures { IfOk result (MayServe (program_of program.now) (wiring plan.now)) }
+{
+    if have_strings(&plan.devices) {
+        return Ok(Serving::Nothing);
+    }
+    match ending_on(alloc, plan, program)? {
+        Ending::Pass => by_one_play(alloc, plan, program),
+        _ => Ok(Serving::Nothing),
+    }
+}
+
+/// How a program's play on the board of a plan ends, from power-up.
+pub fn ending_on(alloc: Global, plan: &Plan, program: &Program) -> Result<Ending, AllocError>
+    requires { PowersUp plan.now }
+    ensures { IfOk result (λ e. e ≡ (play (program_of program.now) (board_of (wiring plan.now))).ending) }
+{
+    let mut board = Board::powered_up(alloc, plan)?;
+    Ok(play_program(program, &mut board))
+}
+
+/// Whether one of the devices has a string.
+fn have_strings(devices: &[PlannedDevice]) -> bool
+    ensures { result ≡ list_any (λ d. nat_lt 0 (length d.follows.items)) devices.now }
+{
+    devices.iter().any(|device| has_strings(device))
+}
+
+fn has_strings(device: &PlannedDevice) -> bool
+    ensures { result ≡ nat_lt 0 (length device.now.follows.items) }
+{
+    !device.follows.is_empty()
+}
+
+/// The captures of a play that serves, where they are no more than a block holds.
+fn by_one_play(alloc: Global, plan: &Plan, program: &Program) -> Result<Serving, AllocError>
+    requires up { PowersUp plan.now }
+    requires serves { Serves (program_of program.now) (wiring plan.now) }
+    ensures { IfOk result (MayServe (program_of program.now) (wiring plan.now)) }
+{
+    let mut play = start_play(alloc, plan, program)?;
+    let pins = play.next_block(alloc)?;
+    let more = play.next_block(alloc)?;
+    let telling = telling_of(alloc, &plan.nets, pins)?;
+    if more.is_empty() {
+        Ok(Serving::Whole(telling))
+    } else {
+        Ok(Serving::Blocks(telling.words))
+    }
+}
+
+/// Captures of a play on these nets, with the words of the nets.
+fn telling_of(alloc: Global, nets: &[PlannedNet], pins: Vec<Capture>) -> Result<Telling, AllocError>
+    ensures telling { IfOk result (IsTelling (map planned_net nets.now)) }
+    ensures noted { IfOk result (λ t. noted_in t.block ≡ map events.seen pins.items) }
+{
+    let block = block_of(alloc, nets, pins)?;
+    let words = net_words(alloc, block.captures(), nets.len())?;
+    Ok(Telling { block, words })
+}
+
+/// How a program ends in each of these ways (asked) in which faults of a planned board may show, as far as one play of
+/// the board tells it. Refused where memory runs out.
+pub fn told_endings(
+    alloc: Global,
+    serving: &Serving,
+    plan: &Plan,
+    program: &Program,
+    ways: &[Way],
+) -> Result<Vec<Option<Ending>>, AllocError>
+    requires ready { IsReadyPlan plan.now }
+    requires serving { MayServe (program_of program.now) (wiring plan.now) serving.now }
+    requires ways { AllByRecursion (IsWayOf (wiring plan.now).nets) ways.now }
+    ensures { IfOk result (λ v. AreTold (program_of program.now) (wiring plan.now) ways.now v.items) }
+{
+    // For the proof alone: what the type keeps of a program's steps.
+    let _ = program.len();
+    match serving {
+        Serving::Nothing => Ok(Vec::from_elem(alloc, None, ways.len())?),
+        Serving::Whole(telling) => {
+            let endings = Vec::from_elem(alloc, Some(Ending::Pass), ways.len())?;
+            Ok(judged(telling, &plan.nets, ways, endings))
+        }
+        Serving::Blocks(_) => all_endings(alloc, plan, program, ways),
+    }
+}
+
+/// How a program ends in each of these ways by all captures of its play on a planned board, block by block.
+fn all_endings(
+    alloc: Global,
+    plan: &Plan,
+    program: &Program,
+    ways: &[Way],
+) -> Result<Vec<Option<Ending>>, AllocError>
+    requires { PowersUp plan.now }
+    ensures { IfOk result (λ v. v.items
+        ≡ endings_by (wiring plan.now).nets (events.captures (program_of program.now) (wiring plan.now)) ways.now) }
+{
+    let mut endings = Vec::from_elem(alloc, Some(Ending::Pass), ways.len())?;
+    let mut play = start_play(alloc, plan, program)?;
+    'rounds: while is_any_open(&endings) {
+        let pins = play.next_block(alloc)?;
+        if pins.is_empty() {
+            return Ok(endings);
+        }
+        let telling = telling_of(alloc, &plan.nets, pins)?;
+        endings = judged(&telling, &plan.nets, ways, endings);
+    }
+    Ok(endings)
+}
+
+/// Whether a way passes so far.
+fn is_any_open(endings: &[Option<Ending>]) -> bool
+    ensures { result ≡ list_any spec.is_open endings.now }
+{
+    endings.iter().any(|ending| is_open(*ending))
+}
+
+fn is_open(ending: Option<Ending>) -> bool
+    ensures { result ≡ spec.is_open ending }
+{
+    matches!(ending, Some(Ending::Pass))
+}
+
+/// How a program ends in each of these ways by a block more.
+fn judged(
+    telling: &Telling,
+    nets: &[PlannedNet],
+    ways: &[Way],
+    endings: Vec<Option<Ending>>,
+) -> Vec<Option<Ending>>
+    requires telling { IsTelling (map planned_net nets.now) telling.now }
+    requires long { length endings.items ≡ length ways.now }
+    ensures { result.items ≡ judged_on (map planned_net nets.now) (noted_in telling.now.block) ways.now endings.items }
+{
+    let mut all = endings;
+    judge_block(telling, nets, ways, &mut all);
+    all
+}
+
+/// Judges ways that passed so far by the next block.
+fn judge_block(telling: &Telling, nets: &[PlannedNet], ways: &[Way], endings: &mut [Option<Ending>])
+    requires telling { IsTelling (map planned_net nets.now) telling.now }
+    requires long { length endings.old ≡ length ways.now }
+    ensures { endings.new ≡ judged_on (map planned_net nets.now) (noted_in telling.now.block) ways.now endings.old }
+{
+    'ways: for k in 0..ways.len() {
+        endings[k] = ending_then(telling, nets, ways[k], endings[k]);
+    }
+}
+
+/// How a program ends in a way by a block, where so far it ends so.
+fn ending_then(
+    telling: &Telling,
+    nets: &[PlannedNet],
+    way: Way,
+    before: Option<Ending>,
+) -> Option<Ending>
+    requires { IsTelling (map planned_net nets.now) telling.now }
+    ensures { result ≡ and_then before (ending_noted (map planned_net nets.now) way (noted_in telling.now.block)) }
+{
+    match before {
+        None => None,
+        Some(Ending::Pass) => told_ending(telling, nets, way),
+        Some(ending) => Some(ending),
+    }
+}
+
+/// How a program that passes ends on the board where a fault of these nets shows in a way, by a block of its
+/// captures; nothing where that does not tell. The first captures at which a bridge tells nothing are passed over.
+fn told_ending(telling: &Telling, nets: &[PlannedNet], way: Way) -> Option<Ending>
+    requires { IsTelling (map planned_net nets.now) telling.now }
+    ensures { result ≡ ending_noted (map planned_net nets.now) way (noted_in telling.now.block) }
+{
+    match way {
+        Way::Short {
+            first,
+            second,
+            winner,
+        } => {
+            let quiet = quiet_captures(&telling.words, nets, first, second, winner);
+            let behind = captures_behind(telling.block.captures(), quiet);
+            net_ending(behind, way, pulls_of(nets, first, second), first, second)
+        }
+        _ => way_ending(&telling.block, nets, way),
+    }
+}
+
+/// So many faults at a time where the captures of a play are noted for them, and where they are kept.
+const MANY: usize = 262_144;
+
+const FEW: usize = 1_024;
+
+/// Some faults of a board, one after another, and how a program ends in each of their ways, way after way, as far as
+/// one play tells it.
+#[derive(Drop)]
+pub struct Chunk {
+    pub faults: Vec<Fault>,
+    pub endings: Vec<Option<Ending>>,
+}
+
+/// The next of the faults of a planned board that are left, and what one play tells of them; none where none is left.
+/// Refused where memory runs out. Asks that the plan is ready, as those are that board files make.
+pub fn next_chunk(
+    alloc: Global,
+    serving: &Serving,
+    plan: &Plan,
+    program: &Program,
+    left: &mut Faults<'_>,
+) -> Result<Chunk, AllocError>
+    requires ready { IsReadyPlan plan.now }
+    requires serving { MayServe (program_of program.now) (wiring plan.now) serving.now }
+    requires faults { AllByRecursion (IsFaultOf (wiring plan.now).nets) (left_of left.old) }
+    ensures { IfOk result (λ c. IsChunk (program_of program.now) (wiring plan.now) (left_of left.old) c
+        (left_of left.new)) }
+{
+    let faults = next_faults(alloc, left, most_of(serving))?;
+    let ways = ways_of(alloc, &faults)?;
+    let endings = told_endings(alloc, serving, plan, program, &ways)?;
+    Ok(Chunk { faults, endings })
+}
+
+/// So many faults at a time.
+fn most_of(serving: &Serving) -> usize
+    ensures { 0 < result }
+{
+    match serving {
+        Serving::Blocks(_) => MANY,
+        Serving::Nothing | Serving::Whole(_) => FEW,
+    }
+}
+
+/// Some faults of a board, one after another: so many bridges that are caught in each of their ways, and the others.
+#[derive(Drop)]
+pub struct Sifted {
+    pub caught: usize,
+    pub chunk: Chunk,
+}
+
+/// The next of the faults of a planned board that are left, as `next_chunk` has them, but for bridges: those that the
+/// first captures of the play tell to be caught in each of their ways are only counted. No other is there only where none
+/// is left. Refused where memory runs out, or where a count does not fit.
+pub fn next_sifted(
+    alloc: Global,
+    serving: &Serving,
+    plan: &Plan,
+    program: &Program,
+    left: &mut Faults<'_>,
+) -> Result<Sifted, AllocError>
+    requires ready { IsReadyPlan plan.now }
+    requires serving { MayServe (program_of program.now) (wiring plan.now) serving.now }
+    requires faults { AllByRecursion (IsFaultOf (wiring plan.now).nets) (left_of left.old) }
+    ensures { IfOk result (λ s. IsSifted (program_of program.now) (wiring plan.now) (left_of left.old) s
+        (left_of left.new)) }
+{
+    // For the proof alone: what the type keeps of a program's steps.
+    let _ = program.len();
+    let mut faults = Vec::new(alloc);
+    let caught = sift(
+        first_words(serving),
+        &plan.nets,
+        left,
+        most_of(serving),
+        &mut faults,
+    )?;
+    let ways = ways_of(alloc, &faults)?;
+    let endings = told_endings(alloc, serving, plan, program, &ways)?;
+    Ok(Sifted {
+        caught,
+        chunk: Chunk { faults, endings },
+    })
+}
+
+/// What is noted of nets at the first captures, by words; of no net where that tells nothing.
+fn first_words(serving: &Serving) -> &[NoteWords]
+    ensures { result.now ≡ spec.first_words serving.now }
+{
+    match serving {
+        Serving::Nothing => &[],
+        Serving::Whole(telling) => &telling.words,
+        Serving::Blocks(words) => words,
+    }
+}
+
+/// Puts the next of the faults that are left behind none, so many or all of them, but counts the bridges that are caught
+/// by the words of nets. Refused where memory runs out, or where the count does not fit.
+fn sift(
+    words: &[NoteWords],
+    nets: &[PlannedNet],
+    left: &mut Faults<'_>,
+    most: usize,
+    kept: &mut Vec<Fault>,
+) -> Result<usize, AllocError>
+    requires some { 0 < most }
+    requires none { kept.old.items ≡ [] }
+    ensures { (ns : List Noted) → AreNetWords (map (with_nets_noted (map planned_net nets.now)) ns) words.now
+        → IfOk result (λ n. Sifts (IsCaughtBy (map planned_net nets.now) ns) (left_of left.old) kept.new.items n
+        (left_of left.new)) }
+{
+    let mut caught = 0_usize;
+    'faults: while kept.len() < most {
+        let Some(fault) = left.next() else {
+            return Ok(caught);
+        };
+        if is_caught(words, nets, fault) {
+            caught = one_more(caught)?;
+        } else {
+            kept.push(fault)?;
+        }
+    }
+    Ok(caught)
+}
+
+/// Refused where that does not fit.
+fn one_more(count: usize) -> Result<usize, AllocError>
+    ensures { IfOk result (λ n. n ≡ count + 1) }
+{
+    count.checked_add(1).ok_or(AllocError)
+}
+
+/// What is told behind so many ways.
+pub fn told_behind(told: &[Option<Ending>], n: usize) -> &[Option<Ending>]
+    ensures { result.now ≡ drop n told.now }
+{
+    if n < told.len() { &told[n..] } else { &[] }
+}
+
+/// What is told of the k-th way.
+pub fn told_at(told: &[Option<Ending>], k: usize) -> Option<Ending>
+    ensures { result ≡ slice_index_or told.now k None }
+{
+    match told.get(k) {
+        Some(ending) => *ending,
+        None => None,
+    }
+}
