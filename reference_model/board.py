@@ -13,6 +13,7 @@ from typing import Callable, NamedTuple
 import bsdl
 import follow
 from controller import NEXT
+from places import description_line
 from refusal import Refusal
 from svf import GoStep, PathStep, RunStep, ScanStep
 
@@ -531,8 +532,11 @@ def read_board(tree: dict, files: dict[str, bytes]) -> Board:
     judge_tables(tree, {name: device for name, device in readings.items()
                         if isinstance(device, bsdl.Device)})
     devices = [readings[table["bsdl"]] for table in tables]
-    for device in devices:
+    for table, device in zip(tables, devices):
         if isinstance(device, Refusal):
+            file = table["bsdl"]
+            code = int(str(device).split()[1][1:])
+            device.second = description_line(file.translate(SHOWN), files[file], code, device.value)
             raise device
     places = {table["name"]: place for place, table in enumerate(tables)}
     pins = [[find_pin(text, places, devices) for text in table["pins"]] for table in net_tables]

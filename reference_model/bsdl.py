@@ -505,7 +505,8 @@ def read(text: bytes) -> Device:
 
     judge_twice(outer, first, own)
     judge_reset(opcodes)
-    judge_lengths(value, opcodes, accesses)
+    words = Words(outer, first)
+    judge_lengths(value, own, words)
     codes = {name[:-len("_REGISTER")]: value[name][0]
              for name in ("IDCODE_REGISTER", "USERCODE_REGISTER") if name in value}
     if not value["INSTRUCTION_CAPTURE"].endswith("01"):
@@ -513,7 +514,7 @@ def read(text: bytes) -> Device:
     if not codes.get("IDCODE", "1").endswith("1"):
         raise refusal(7)
     judge_cells(cells, value["BOUNDARY_LENGTH"], ports, taps)
-    judge_limits(value, cells, accesses, ports)
+    judge_limits(value, cells, own, outer.ports, words)
     modes = {name: port.mode for name, port in declared.items()}
     return Device(ports, modes, taps, "TAP_SCAN_RESET" in first, opcodes, value["INSTRUCTION_CAPTURE"], codes,
                   cells, private, accesses)
@@ -546,22 +547,48 @@ def judge_reset(opcodes: list[OpcodeRow]) -> None:
             raise refusal(4, "IDCODE")
 
 
-def judge_lengths(value: dict, opcodes: list[OpcodeRow], accesses: dict[str, Access]) -> None:
+class Words:
+    """The places of the words that tell what is too long or too short."""
+
+    def __init__(self, outer: Outer, first: dict[str, Given]):
+        self.outer, self.first = outer, first
+
+    def attribute(self, name: str) -> int:
+        return next(given.place for given in self.outer.given if given.name == name)
+
+    def inside(self, attribute: str, named: Named) -> int:
+        """A name in an attribute's text, in the string that has its first letter."""
+        tokens, offset = self.outer.tokens, named.place
+        at = next(at for at, token in enumerate(tokens) if token.start == self.first[attribute].place)
+        while offset >= len(tokens[at].text):
+            offset, at = offset - len(tokens[at].text), at + 2
+        return tokens[at].start + 1 + offset
+
+
+def judge_lengths(value: dict, own: list[Named], words: Words) -> None:
     """B5: a pattern hasn't its register's length, a register has two lengths, or one is below its limit."""
     bits, cells = value["INSTRUCTION_LENGTH"], value["BOUNDARY_LENGTH"]
     fixed = {"BOUNDARY": cells, "BYPASS": 1, "DEVICE_ID": 32}
-    patterns = [(pattern, bits) for row in opcodes for pattern in row.patterns]
-    patterns += [(value["INSTRUCTION_CAPTURE"], bits)]
-    patterns += [(pattern, 32) for name in ("IDCODE_REGISTER", "USERCODE_REGISTER")
-                 for pattern in value.get(name, ())]
-    patterns += [(access.captures, fixed[access.register] if access.length is None else access.length)
-                 for access in accesses.values() if access.captures is not None]
-    user = {(access.register, access.length) for access in accesses.values() if access.length is not None}
-    if (bits < INSTRUCTION_BITS[0] or cells < CELLS[0]
-            or any(len(pattern) != length for pattern, length in patterns)
-            or any(length < USER_BITS[0] for _, length in user)
-            or len(user) != len({register for register, _ in user})):
-        raise refusal(5)
+    if bits < INSTRUCTION_BITS[0]:
+        raise refusal(5, words.attribute("INSTRUCTION_LENGTH"))
+    if cells < CELLS[0]:
+        raise refusal(5, words.attribute("BOUNDARY_LENGTH"))
+    for row in value["INSTRUCTION_OPCODE"]:
+        if any(len(pattern) != bits for pattern in row.what.patterns):
+            raise refusal(5, words.inside("INSTRUCTION_OPCODE", row))
+    if len(value["INSTRUCTION_CAPTURE"]) != bits:
+        raise refusal(5, words.attribute("INSTRUCTION_CAPTURE"))
+    for name in ("IDCODE_REGISTER", "USERCODE_REGISTER"):
+        if any(len(pattern) != 32 for pattern in value.get(name, ())):
+            raise refusal(5, words.attribute(name))
+    for named in own:
+        access = named.what
+        length = fixed[access.register] if access.length is None else access.length
+        if access.length == 0 or access.captures is not None and len(access.captures) != length:
+            raise refusal(5, words.inside("REGISTER_ACCESS", named))
+    user = {(named.what.register, named.what.length) for named in own if named.what.length is not None}
+    if len(user) != len({register for register, _ in user}):
+        raise refusal(5, words.attribute("REGISTER_ACCESS"))
 
 
 def judge_cells(cells: list[Cell], length: int, ports: dict, taps: frozenset) -> None:
@@ -602,14 +629,25 @@ def is_bit(ports: dict[str, range | None], bit: tuple) -> bool:
     return subscript is None if ports[name] is None else subscript is not None and subscript in ports[name]
 
 
-def judge_limits(value: dict, cells: list[Cell], accesses: dict[str, Access], ports: dict) -> None:
+def judge_limits(value: dict, cells: list[Cell], own: list[Named], ports: list[Named], words: Words) -> None:
     """B9: a limit is passed; subscripts and the numbers of cells have one too."""
-    user = {access.register: access.length for access in accesses.values() if access.length is not None}
-    vectors = [subscripts for subscripts in ports.values() if subscripts is not None]
-    port_bits = len(ports) + sum(vector.stop - vector.start - 1 for vector in vectors)
-    if (value["INSTRUCTION_LENGTH"] > INSTRUCTION_BITS[1]
-            or len(value["INSTRUCTION_OPCODE"]) > INSTRUCTION_ROWS
-            or value["BOUNDARY_LENGTH"] > CELLS[1] or cells[-1].number > INDEX_LIMIT
-            or port_bits > PORT_BITS or any(vector.stop - 1 > INDEX_LIMIT for vector in vectors)
-            or len(user) > USER_REGISTERS or any(length > USER_BITS[1] for length in user.values())):
-        raise refusal(9)
+    if value["INSTRUCTION_LENGTH"] > INSTRUCTION_BITS[1]:
+        raise refusal(9, words.attribute("INSTRUCTION_LENGTH"))
+    if len(value["INSTRUCTION_OPCODE"]) > INSTRUCTION_ROWS:
+        raise refusal(9, words.inside("INSTRUCTION_OPCODE", value["INSTRUCTION_OPCODE"][INSTRUCTION_ROWS]))
+    if value["BOUNDARY_LENGTH"] > CELLS[1]:
+        raise refusal(9, words.attribute("BOUNDARY_LENGTH"))
+    if cells[-1].number > INDEX_LIMIT:
+        raise refusal(9, words.attribute("BOUNDARY_REGISTER"))
+    port_bits = 0
+    for port in ports:
+        vector = port.what.subscripts
+        port_bits += 1 if vector is None else vector.stop - vector.start
+        if port_bits > PORT_BITS or vector is not None and vector.stop - 1 > INDEX_LIMIT:
+            raise refusal(9, port.place)
+    user = [named for named in own if named.what.length is not None]
+    for named in user:
+        if named.what.length > USER_BITS[1]:
+            raise refusal(9, words.inside("REGISTER_ACCESS", named))
+    if len({named.what.register for named in user}) > USER_REGISTERS:
+        raise refusal(9, words.attribute("REGISTER_ACCESS"))

@@ -1,4 +1,5 @@
-"""Where in its text the refusal of a program lies: what `--explain` adds, `at line 2 column 12`.
+"""Where in its text the refusal of a program lies: what `--explain` adds, `at line 2 column 12`; and which word of a
+description tells what is too long.
 
 Read anew from the refused text.  Of S4 the token at fault is found by trying: a front of the statement is let stand if
 some words behind it make a statement of it.
@@ -31,6 +32,22 @@ def second_line(text: bytes, code: int, number: int) -> str:
     """The line of a refusal; empty where the text is too long."""
     place = offset(text, code, number)
     return "" if place is None else "at line %d column %d" % position(text, place)
+
+
+def description_line(file: str, text: bytes, code: int, value: int | str | None) -> str:
+    """The line of a refused description.  Empty for a token that does not fit (B2): that within quotes is not found here."""
+    if code == 2:
+        return ""
+    words = ""
+    if code in (1, 5, 9) and value is not None:
+        words = " at line %d column %d" % position(text, value)
+    if code in (5, 9) and value is not None:
+        words += " name " + re.match(rb"[A-Za-z0-9_]+", text[value:])[0].decode()
+    if code in (3, 4):
+        words = f" name {value}"
+    if code == 8:
+        words = f" cell {value}"
+    return f"in {file}{words}"
 
 
 def position(text: bytes, place: int) -> tuple[int, int]:

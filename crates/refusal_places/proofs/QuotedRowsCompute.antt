@@ -16,5 +16,10 @@ quoted_rows = record {
   ends_early_behind = refl;
   no_bracket = refl;
   no_text = refl;
+  spot_in_the_text = refl;
+  spot_in_a_string = refl;
+  no_description = refl;
+  named = refl;
+  unnamed = refl;
   elsewhere = refl;
 }

@@ -5,6 +5,7 @@ pub mod Left
 pub mod Rising
 pub mod TextRows
 pub mod Misfits
+pub mod MisfitLaws
 pub mod TokenFaults
 pub mod TokenRows
 pub mod QuotedPlaces

@@ -1,13 +1,17 @@
 -- The second line of a refusal: where in which text it lies, or the name that it speaks of.
-use Rattle.std.specs.Prelude.{ℕ, List, [], ◌∷◌, ◌++◌, codes, decimal, string_bytes, Option, Some, None}
+use Rattle.std.specs.Prelude.{ℕ, true, List, [], ◌∷◌, ◌++◌, codes, decimal, drop, string_bytes, Option, Some, None}
 use Rattle.std.specs.Prelude.{option_map, unwrap_or}
 use Rattle.svf_words.specs.declared.fault.Code.{Code}
 use Rattle.svf_words.specs.declared.fault.Code.TheVariants as code
 use Rattle.svf_words.specs.declared.fault.SvfFault.{SvfFault}
+use Rattle.bsdl_text.specs.Cutting.{tokens, cuts_of}
 use Rattle.bsdl_values.specs.declared.Attribute.{Attribute}
 use Rattle.bsdl_values.specs.declared.Attribute.TheVariants as attribute
 use Rattle.bsdl.specs.declared.fault.BsdlFault.{BsdlFault}
 use Rattle.bsdl.specs.declared.fault.BsdlFault.TheVariants as bsdl
+use Rattle.bsdl_sizes.specs.declared.sizes.Refused.{Refused}
+use Rattle.bsdl_sizes.specs.declared.sizes.Refused.TheVariants as refused
+use Rattle.bsdl_sizes.specs.Sizes.{spot_at_fault}
 use Rattle.board_tables.specs.declared.fields.BoardTable.{BoardTable}
 use Rattle.board_tables.specs.declared.fields.BoardTable.TheVariants as tables
 use Rattle.board_tables.specs.declared.fault.BoardFault.{BoardFault}
@@ -17,7 +21,7 @@ use Rattle.output_words.specs.Lines.{position_line, position_words}
 use Rattle.output_words.specs.Names.{shown}
 use Rattle.output_words.specs.Texts.{texts}
 use Rattle.refusal_places.specs.Positions.{position_of}
-use Rattle.refusal_places.specs.QuotedPlaces.{unfit_place}
+use Rattle.refusal_places.specs.QuotedPlaces.{unfit_place, first_text, spot_place}
 use Rattle.refusal_places.specs.Starts.{statement_position}
 use Rattle.refusal_places.specs.TokenFaults.{token_at_fault}
 
@@ -59,10 +63,17 @@ attribute_word attribute.RegisterAccess = codes "REGISTER_ACCESS"
 abbrev pub name_words : List ℕ → List ℕ
 name_words name = codes "name " ++ name
 
--- where in a description its refusal lies: at a bad byte, or at the token at fault, within quotes too
+-- the place of the word that tells what is too long or too short
+abbrev pub size_place : Refused → List ℕ → Option ℕ
+size_place r text = option_map (spot_place text) (spot_at_fault r text)
+
+-- where in a description its refusal lies: at a bad byte, at the token at fault, within quotes too, or at the word that
+-- tells what is too long or too short
 abbrev pub bsdl_place : List ℕ → BsdlFault → Option ℕ
 bsdl_place text (bsdl.BadToken place) = Some place
 bsdl_place text (bsdl.BadForm place) = Some (unfit_place text place)
+bsdl_place text bsdl.BadLength = size_place refused.BadLength text
+bsdl_place text bsdl.TooLarge = size_place refused.TooLarge text
 bsdl_place text _ = None
 
 -- what it names: an attribute, a name, or a cell
@@ -72,12 +83,22 @@ bsdl_named (bsdl.Twice name) = codes " " ++ name_words (shown (string_bytes name
 bsdl_named (bsdl.BadCell number) = codes " cell " ++ decimal number
 bsdl_named _ = []
 
+-- the word that stands at a place, within quotes or not
+abbrev pub word_at : List ℕ → ℕ → List ℕ
+word_at text place = first_text (tokens (cuts_of true (drop place text)))
+
+-- what is too long or too short is named, too
+abbrev pub word_told : List ℕ → ℕ → BsdlFault → List ℕ
+word_told text place bsdl.BadLength = codes " " ++ name_words (word_at text place)
+word_told text place bsdl.TooLarge = codes " " ++ name_words (word_at text place)
+word_told text place _ = []
+
 -- what a refusal of a description says beside its number: a place of the text, or what it names
 abbrev pub bsdl_words : List ℕ → BsdlFault → List ℕ
 bsdl_words text f = by (bsdl_place text f)
   where
     by : Option ℕ → List ℕ
-    by (Some place) = codes " " ++ position_words (position_of text place)
+    by (Some place) = (codes " " ++ position_words (position_of text place)) ++ word_told text place f
     by None = bsdl_named f
 
 -- the line of a refused description, by its file and its text

@@ -10,6 +10,8 @@ use Rattle.bsdl_values.specs.declared.values.Language.TheVariants.{Opcodes, Capt
 use Rattle.bsdl_values.specs.declared.values.Language.TheVariants.{Accesses}
 use Rattle.bsdl_values.specs.InstructionValues.{rows, pattern, opcode_row, private_name, access_row}
 use Rattle.bsdl_values.specs.CellRows.{cell_row}
+use Rattle.bsdl_sizes.specs.declared.spots.Spot.{Spot}
+use Rattle.bsdl_sizes.specs.declared.spots.Spot.TheVariants.{Outside, Inside}
 
 -- what the text of an attribute of this name is written in
 abbrev pub language_of : List ℕ → Option Language
@@ -91,3 +93,12 @@ unfit_place text place = by (quoted_at place (tokens (cuts_of false text)))
     by : Option (Language × List Lexeme) → ℕ
     by None = place
     by (Some p) = joined_place (length text) place p.0 p.1 (joined_text p.1)
+
+-- the place of a spot: within quotes that of its offset
+abbrev pub spot_place : List ℕ → Spot → ℕ
+spot_place text (Outside start) = start
+spot_place text (Inside quote offset) = by (quoted_at quote (tokens (cuts_of false text)))
+  where
+    by : Option (Language × List Lexeme) → ℕ
+    by None = quote
+    by (Some p) = min (length text) (place_in offset p.1)

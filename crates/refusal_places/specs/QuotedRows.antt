@@ -1,6 +1,10 @@
 -- Descriptions with the token at fault within their quotes, by the place that their refusal tells.
-use Rattle.std.specs.Prelude.{◌≡◌, ℕ, List, [], ◌∷◌, ◌++◌, codes}
-use Rattle.refusal_places.specs.QuotedPlaces.{unfit_place}
+use Rattle.std.specs.Prelude.{◌≡◌, ℕ, List, [], ◌∷◌, ◌++◌, codes, None}
+use Rattle.bsdl.specs.declared.fault.BsdlFault.TheVariants as bsdl
+use Rattle.bsdl_sizes.specs.declared.spots.Spot.TheVariants.{Outside, Inside}
+use Rattle.refusal_places.specs.QuotedPlaces.{unfit_place, spot_place}
+use Rattle.bsdl_sizes.specs.declared.sizes.Refused.TheVariants as refused
+use Rattle.refusal_places.specs.Places.{size_place, word_told}
 
 abbrev pub quote : List ℕ
 quote = 34 ∷ []
@@ -26,4 +30,9 @@ pub record QuotedRows : Type 0 where
   pub no_bracket : unfit_place (opcodes (quote ++ codes "A (1), B 0)" ++ quote)) 46 ≡ 56
   pub no_text : unfit_place (codes "attribute INSTRUCTION_LENGTH of K : entity is " ++ quote ++ codes "2" ++ quote) 46
       ≡ 46
+  pub spot_in_the_text : spot_place (opcodes (joined (codes "A (1), ") (codes "B (0)"))) (Outside 10) ≡ 10
+  pub spot_in_a_string : spot_place (opcodes (joined (codes "A (1), ") (codes "B (0)"))) (Inside 46 7) ≡ 59
+  pub no_description : size_place refused.TooLarge [] ≡ None
+  pub named : word_told (opcodes (quote ++ codes "EXTEST(0)" ++ quote)) 47 bsdl.BadLength ≡ codes " name EXTEST"
+  pub unnamed : word_told (opcodes (quote ++ codes "EXTEST(0)" ++ quote)) 47 (bsdl.BadForm 47) ≡ []
   pub elsewhere : unfit_place (opcodes (quote ++ codes "BYPASS" ++ quote)) 10 ≡ 10

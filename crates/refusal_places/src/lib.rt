@@ -9,6 +9,7 @@ ghost use Rattle.refusal_places.specs.PlaceRows.{PlaceRows};
 ghost use Rattle.refusal_places.specs.QuotedRows.{QuotedRows};
 ghost use Rattle.refusal_places.specs.TokenRows.{MisfitRows, OwnRows};
 
+pub use misfits::a_misfit_is_the_first_with_which_no_statement_goes_on;
 pub use refused::{
     place_in_description, refused_board, refused_description, refused_key, refused_text,
     refused_toml,

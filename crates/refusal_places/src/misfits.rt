@@ -2,6 +2,7 @@
 ghost use Rattle.std.specs.Prelude.{◌≡◌};
 ghost use Rattle.svf_lex.specs.Left.{left};
 ghost use Rattle.refusal_places.specs.Misfits as spec;
+ghost use Rattle.refusal_places.specs.MisfitLaws.{MisfitsComeFirst};
 
 use svf_lex::{Kind, Lexer};
 use svf_words::{
@@ -79,6 +80,14 @@ pub(crate) fn first_misfit(awaited: Awaited, words: Lexer<'_>) -> Option<usize>
         }
     }
     None
+}
+
+/// The law that a token which is told to be a misfit is the first with which no statement of its command goes on by the
+/// grammar: some statement begins with the words before it, and none with it; where it is the `;` they are none.
+pub fn a_misfit_is_the_first_with_which_no_statement_goes_on()
+    ensures { MisfitsComeFirst }
+{
+    svf_parse::forms_are_read_as_they_are_written();
 }
 
 /// What is awaited behind a command; of a parallel port anything is.

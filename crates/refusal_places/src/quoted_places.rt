@@ -4,8 +4,10 @@ ghost use Rattle.bsdl_text.specs.Cutting.{Lexeme, cuts_of, tokens};
 ghost use Rattle.bsdl_text.specs.Left.{left};
 ghost use Rattle.bsdl_values.specs.declared.values.Language as declared_language;
 ghost use Rattle.bsdl_values.specs.InstructionValues as rows;
+ghost use Rattle.refusal_places.specs.Places as places;
 ghost use Rattle.refusal_places.specs.QuotedPlaces as spec;
 
+use bsdl_sizes::{Refused, Spot, spot_at_fault};
 use bsdl_text::{
     Entry, Kind, Lexer, Stop, bad_byte, joined_text, listed, same_name, stands, stands_for,
 };
@@ -39,6 +41,34 @@ pub(crate) fn unfit_place(alloc: Global, text: &[u8], place: usize) -> Result<us
         },
         Err(Stop::Misfit(_)) => Ok(place),
         Err(Stop::Memory) => Err(AllocError),
+    }
+}
+
+/// The place of the word that tells what is too long or too short in a refused description. Refuses for want of memory
+/// alone, and takes some in proportion to the text.
+pub(crate) fn size_place(
+    alloc: Global,
+    text: &[u8],
+    refused: Refused,
+) -> Result<Option<usize>, AllocError>
+    ensures { IfOk result (λ place. place ≡ places.size_place refused text.now) }
+{
+    match spot_at_fault(alloc, text, refused)? {
+        Some(spot) => Ok(Some(spot_place(text, spot))),
+        None => Ok(None),
+    }
+}
+
+/// The place of a spot.
+fn spot_place(text: &[u8], spot: Spot) -> usize
+    ensures { result ≡ spec.spot_place text.now spot }
+{
+    match spot {
+        Spot::Outside(start) => start,
+        Spot::Inside(quote, offset) => match quoted_at(text, quote) {
+            Some((_, strings)) => place_in(text.len(), strings, offset),
+            None => quote,
+        },
     }
 }
 

@@ -1,15 +1,17 @@
 //! The second line of a refusal.
-ghost use Rattle.std.specs.Prelude.{◌≡◌, ◌++◌, codes, IfOk};
+ghost use Rattle.std.specs.Prelude.{◌≡◌, ◌++◌, codes, drop, IfOk};
 ghost use Rattle.byte_streams.specs.Writes.{WritesAll};
 ghost use Rattle.output_words.specs.Lines.{position_words};
 ghost use Rattle.output_words.specs.Names.{shown};
 ghost use Rattle.refusal_places.specs.Places as places;
 
-use crate::quoted_places::unfit_place;
+use crate::quoted_places::{size_place, unfit_place};
 use crate::text_positions::{position_of, statement_position};
 use crate::token_faults::token_at_fault;
 use board_tables::{BoardFault, BoardTable};
 use bsdl::{Attribute, BsdlFault};
+use bsdl_sizes::Refused;
+use bsdl_text::Lexer;
 use byte_streams::{Broken, Counted, Sink, put_all, put_pieces};
 use itoa::Buffer;
 use output_words::{Position, write_position, write_position_line, write_shown};
@@ -48,9 +50,9 @@ fn svf_position(text: &[u8], fault: SvfFault) -> Option<Position>
     }
 }
 
-/// Where in a description its refusal lies: at a bad byte, or at the token at fault, within quotes too. None for a
-/// refusal that no one place has. Refuses for want of memory alone, and takes some in proportion to a text within
-/// quotes.
+/// Where in a description its refusal lies: at a bad byte, at the token at fault, within quotes too, or at the word
+/// that tells what is too long or too short. None for a refusal that no one place has. Refuses for want of memory
+/// alone, and takes some in proportion to the text.
 pub fn place_in_description(
     alloc: Global,
     text: &[u8],
@@ -61,13 +63,15 @@ pub fn place_in_description(
     match fault {
         BsdlFault::BadToken(place) => Ok(Some(*place)),
         BsdlFault::BadForm(place) => Ok(Some(unfit_place(alloc, text, *place)?)),
+        BsdlFault::BadLength => size_place(alloc, text, Refused::BadLength),
+        BsdlFault::TooLarge => size_place(alloc, text, Refused::TooLarge),
         _ => Ok(None),
     }
 }
 
 /// Writes of a refused description its file, and where in its text the refusal lies (as `place_in_description` found
-/// it) or which name or cell it speaks of: `in k.bsd at line 3 column 1`, `in k.bsd name BOUNDARY_LENGTH`, `in k.bsd
-/// cell 3`.
+/// it) or which name or cell it speaks of: `in k.bsd at line 3 column 1`, `in k.bsd at line 12 column 5 name EXTEST`,
+/// `in k.bsd name BOUNDARY_LENGTH`, `in k.bsd cell 3`.
 ///
 /// `Broken` comes exactly where the writer's first failure came in this call.
 pub fn refused_description<E: Sink>(
@@ -99,8 +103,63 @@ fn write_bsdl_words<E: Sink>(
     ensures { WritesAll E.contents err.old err.new (places.bsdl_words text.now fault.now) result }
 {
     match place {
-        Some(place) => write_spaced_position(position_of(text, place), err),
+        Some(place) => write_place(text, fault, place, position_of(text, place), err),
         None => write_named(fault, err),
+    }
+}
+
+/// Writes the position of a place of a description behind a blank, and the word that stands there where it tells what
+/// is too long or too short.
+fn write_place<E: Sink>(
+    text: &[u8],
+    fault: &BsdlFault,
+    place: usize,
+    position: Position,
+    err: &mut Counted<E>,
+) -> Result<(), Broken>
+    requires { err.old.failures ≡ 0 }
+    ensures { WritesAll E.contents err.old err.new ((codes " " ++ position_words position)
+        ++ places.word_told text.now place fault.now) result }
+{
+    write_spaced_position(position, err)?;
+    write_word_told(text, fault, place, err)
+}
+
+/// Writes the word that stands at a place, where it tells what is too long or too short.
+fn write_word_told<E: Sink>(
+    text: &[u8],
+    fault: &BsdlFault,
+    place: usize,
+    err: &mut Counted<E>,
+) -> Result<(), Broken>
+    requires { err.old.failures ≡ 0 }
+    ensures { WritesAll E.contents err.old err.new (places.word_told text.now place fault.now) result }
+{
+    match fault {
+        BsdlFault::BadLength => put_pieces(err, &[b" name ", word_at(text, place)]),
+        BsdlFault::TooLarge => put_pieces(err, &[b" name ", word_at(text, place)]),
+        _ => put_all(err, b""),
+    }
+}
+
+/// The word that stands at a place.
+fn word_at(text: &[u8], place: usize) -> &[u8]
+    ensures { result.now ≡ places.word_at text.now place }
+{
+    match Lexer::within_quotes(behind(text, place)).next() {
+        Some((token, _)) => token.text,
+        None => &[],
+    }
+}
+
+/// What stands from a place on.
+fn behind(text: &[u8], place: usize) -> &[u8]
+    ensures { result.now ≡ drop place text.now }
+{
+    if place < text.len() {
+        &text[place..]
+    } else {
+        &[]
     }
 }
 

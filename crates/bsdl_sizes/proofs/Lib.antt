@@ -1,0 +1,3 @@
+pub mod PortLaws
+pub mod SpotLaws
+pub mod SizeRowsCompute

@@ -1,0 +1,5 @@
+pub mod Spots
+pub mod Lengths
+pub mod Limits
+pub mod Sizes
+pub mod SizeRows
