@@ -87,6 +87,14 @@ fn the_longest_run(rt: HostRuntime) {
     assert_eq!(rt; bytes.left(), 2 * (3 + 4_294_967_295 + 3));
 }
 
+/// The words of TRST, and the bytes of each.
+const TRST_BYTES: &[(TrstWord, &[u8])] = &[
+    (TrstWord::On, b"t26262626260"),
+    (TrstWord::Off, b"r"),
+    (TrstWord::Z, b"r"),
+    (TrstWord::Absent, b""),
+];
+
 #[test]
 fn paths_and_lines(rt: HostRuntime) {
     let path = [
@@ -100,13 +108,7 @@ fn paths_and_lines(rt: HostRuntime) {
     ];
     assert_bytes(&rt, State::Idle, Action::Path(&path), b"260404042626040");
     assert_bytes(&rt, State::Reset, Action::Go(State::Idle), b"040");
-    let words: [(TrstWord, &[u8]); 4] = [
-        (TrstWord::On, b"t26262626260"),
-        (TrstWord::Off, b"r"),
-        (TrstWord::Z, b"r"),
-        (TrstWord::Absent, b""),
-    ];
-    for (word, bytes) in words.iter() {
+    for (word, bytes) in TRST_BYTES {
         assert_bytes(&rt, State::DrPause, Action::Trst(*word), bytes);
     }
 }

@@ -241,19 +241,6 @@ fn assert_outcome(
     Ok(())
 }
 
-/// The sample devices, each part of them.
-#[test]
-fn sample_devices(rt: HostRuntime) -> Result<(), Fail> {
-    assert_told(&rt, rt.alloc(), K, K_TOLD)?;
-    assert_told(
-        &rt,
-        rt.alloc(),
-        P,
-        "ports TDI:In+ TMS:In+ TCK:In+ TDO:Out+ instructions 2 BYPASS:11 EXTEST:00 capture 01 cells Internal",
-    )?;
-    Ok(())
-}
-
 /// The device K with TRST.
 #[test]
 fn a_device_with_trst(rt: HostRuntime) -> Result<(), Fail> {
@@ -301,11 +288,15 @@ const WHOLE_TOLD: &str =
     id 00000000000000000000000000000001 user 11111111111111111111111111111111 cells Bidir:5/5=true>Weak1 \
     ObserveOnly:6 Output2:8 Output3:7/5=false>Keeper Clock:9 ControlR LOAD>AtUser(0)=1001 TWIN>AtBypass register 4";
 
-#[test]
-fn each_part(rt: HostRuntime) -> Result<(), Fail> {
-    assert_told(&rt, rt.alloc(), WHOLE, WHOLE_TOLD)?;
-    Ok(())
-}
+/// The sample devices, each part of them.
+const TOLD: &[(&str, &str)] = &[
+    (K, K_TOLD),
+    (
+        P,
+        "ports TDI:In+ TMS:In+ TCK:In+ TDO:Out+ instructions 2 BYPASS:11 EXTEST:00 capture 01 cells Internal",
+    ),
+    (WHOLE, WHOLE_TOLD),
+];
 
 /// Every other letter of a text in upper case, the others in lower case.
 fn mixed(alloc: Global, text: &str) -> Result<String, AllocError> {
@@ -320,11 +311,12 @@ fn mixed(alloc: Global, text: &str) -> Result<String, AllocError> {
     Ok(mixed)
 }
 
-/// A text in upper, lower or mixed case says the same device.
+/// A text as it stands, and in upper, lower or mixed case, says the same device.
 #[test]
 fn any_case(rt: HostRuntime) -> Result<(), Fail> {
     let alloc = rt.alloc();
-    for (text, device) in [(K, K_TOLD), (WHOLE, WHOLE_TOLD)] {
+    for (text, device) in TOLD {
+        assert_told(&rt, alloc, text, device)?;
         let upper = text.to_ascii_uppercase(alloc)?;
         assert_told(&rt, alloc, upper.as_str(), device)?;
         let lower = text.to_ascii_lowercase(alloc)?;
@@ -387,25 +379,52 @@ const CHANGES: &[(&str, &str, &str)] = &[
     ("X, 1, 0, Z", "X, 2, 0, Z", "B8 BadCell 0"),
     (", X, 1, 0, Z", ", X", "B8 BadCell 0"),
     ("D, input, X)", "Q, output2, X)", "B8 BadCell 2"),
+    // limits, each at its edge and one past it
+    (
+        "Q : out bit;",
+        "Q : out bit; A : in bit_vector (0 to 8185);",
+        "read",
+    ),
+    (
+        "Q : out bit;",
+        "Q : out bit; A : in bit_vector (0 to 8186);",
+        "B9 TooLarge",
+    ),
+    (
+        "Q : out bit;",
+        "Q : out bit; A : in bit_vector (65535 downto 65535);",
+        "read",
+    ),
+    (
+        "Q : out bit;",
+        "Q : out bit; A : in bit_vector (65536 downto 65536);",
+        "B9 TooLarge",
+    ),
+    ("entity is 2", "entity is 1", "B5 BadLength"),
+    ("entity is 3", "entity is 0", "B5 BadLength"),
+    (
+        "0 (BC_1, Q",
+        "65535 (BC_1, *, internal, 0), 0 (BC_1, Q",
+        "B8 BadCell 65535",
+    ),
+    (
+        "0 (BC_1, Q",
+        "65536 (BC_1, *, internal, 0), 0 (BC_1, Q",
+        "B9 TooLarge",
+    ),
+    ("X, 1, 0, Z", "X, 65537, 0, Z", "B8 BadCell 0"),
+    ("X, 1, 0, Z", "X, 1, 2, Z", "B2 BadForm 795"),
+    ("D, input", "D(65536), input", "B8 BadCell 2"),
+    ("(11)", "()", "B2 BadForm 483"),
 ];
 
-/// Asserts what K with one piece replaced is told to be, row by row.
-fn assert_changes(
-    rt: &impl Abort,
-    alloc: Global,
-    rows: &[(&str, &str, &str)],
-) -> Result<(), AllocError> {
-    for (from, to, wanted) in rows {
-        let told = changed(alloc, from, to)?;
-        assert_eq!(rt; told.as_str(), *wanted);
-    }
-    Ok(())
-}
-
-/// The tables of refusals: the least number that applies, with its place, name or cell.
+/// The refusals of what is changed: the least number that applies, with its place, name or cell.
 #[test]
 fn changes(rt: HostRuntime) -> Result<(), Fail> {
-    assert_changes(&rt, rt.alloc(), CHANGES)?;
+    for (from, to, wanted) in CHANGES {
+        let told = changed(rt.alloc(), from, to)?;
+        assert_eq!(&rt; told.as_str(), *wanted);
+    }
     Ok(())
 }
 
@@ -433,17 +452,20 @@ fn with_rows(alloc: Global, count: usize) -> Result<String, AllocError> {
     K.replace(alloc, "is\n    \"BYPASS (11), EXTEST (00),", rows.as_str())
 }
 
+/// Where an opcode or a capture of K opens, what may stand above its lowest bits, and these.
+const OPCODE_ENDS: &[(&str, &str, &str)] = &[
+    ("(", "0", "00)"),
+    ("(", "0", "01)"),
+    ("(", "0", "10)"),
+    ("\"", "0", "01\""),
+    ("(", "1", "11)"),
+];
+
 /// K with instructions of so many bits: what stands above the lowest two is 0, of BYPASS 1.
 fn with_instruction_bits(alloc: Global, count: usize) -> Result<String, AllocError> {
     let length = format!(in alloc; "entity is {count}")?;
     let mut text = K.replace(alloc, "entity is 2", length.as_str())?;
-    for (opening, above, lowest) in [
-        ("(", "0", "00)"),
-        ("(", "0", "01)"),
-        ("(", "0", "10)"),
-        ("\"", "0", "01\""),
-        ("(", "1", "11)"),
-    ] {
+    for (opening, above, lowest) in OPCODE_ENDS {
         let above = above.repeat(alloc, count.saturating_sub(2))?;
         let from = format!(in alloc; "{opening}{lowest}")?;
         let to = format!(in alloc; "{opening}{above}{lowest}")?;
@@ -485,81 +507,46 @@ fn with_users(alloc: Global, count: usize, length: usize) -> Result<String, Allo
     text.as_str().replace(alloc, "end", rows.as_str())
 }
 
-#[test]
-fn limits(rt: HostRuntime) -> Result<(), Fail> {
-    let alloc = rt.alloc();
-    for (count, wanted) in [(2, "read"), (64, "read"), (65, "B9 TooLarge")] {
-        let text = with_instruction_bits(alloc, count)?;
-        assert_outcome(&rt, alloc, text.as_str(), wanted)?;
-    }
-    for (count, wanted) in [(256, "read"), (257, "B9 TooLarge")] {
-        let text = with_rows(alloc, count)?;
-        assert_outcome(&rt, alloc, text.as_str(), wanted)?;
-    }
-    for (count, wanted) in [(4_096, "read"), (4_097, "B9 TooLarge")] {
-        let text = with_cells(alloc, count)?;
-        assert_outcome(&rt, alloc, text.as_str(), wanted)?;
-    }
-    Ok(())
+/// What K has more of than it does.
+enum More {
+    InstructionBits(usize),
+    Rows(usize),
+    Cells(usize),
+    /// So many registers of its own, each of this length.
+    Users(usize, usize),
 }
 
-#[test]
-fn limits_of_own_registers(rt: HostRuntime) -> Result<(), Fail> {
-    for (count, length, wanted) in [
-        (64, 1, "read"),
-        (65, 1, "B9 TooLarge"),
-        (1, 4_096, "read"),
-        (1, 4_097, "B9 TooLarge"),
-        (1, 0, "B5 BadLength"),
-    ] {
-        let text = with_users(rt.alloc(), count, length)?;
-        assert_outcome(&rt, rt.alloc(), text.as_str(), wanted)?;
+fn with_more(alloc: Global, more: &More) -> Result<String, AllocError> {
+    match more {
+        More::InstructionBits(count) => with_instruction_bits(alloc, *count),
+        More::Rows(count) => with_rows(alloc, *count),
+        More::Cells(count) => with_cells(alloc, *count),
+        More::Users(count, length) => with_users(alloc, *count, *length),
     }
-    Ok(())
 }
 
-const EDGES: &[(&str, &str, &str)] = &[
-    (
-        "Q : out bit;",
-        "Q : out bit; A : in bit_vector (0 to 8185);",
-        "read",
-    ),
-    (
-        "Q : out bit;",
-        "Q : out bit; A : in bit_vector (0 to 8186);",
-        "B9 TooLarge",
-    ),
-    (
-        "Q : out bit;",
-        "Q : out bit; A : in bit_vector (65535 downto 65535);",
-        "read",
-    ),
-    (
-        "Q : out bit;",
-        "Q : out bit; A : in bit_vector (65536 downto 65536);",
-        "B9 TooLarge",
-    ),
-    ("entity is 2", "entity is 1", "B5 BadLength"),
-    ("entity is 3", "entity is 0", "B5 BadLength"),
-    (
-        "0 (BC_1, Q",
-        "65535 (BC_1, *, internal, 0), 0 (BC_1, Q",
-        "B8 BadCell 65535",
-    ),
-    (
-        "0 (BC_1, Q",
-        "65536 (BC_1, *, internal, 0), 0 (BC_1, Q",
-        "B9 TooLarge",
-    ),
-    ("X, 1, 0, Z", "X, 65537, 0, Z", "B8 BadCell 0"),
-    ("X, 1, 0, Z", "X, 1, 2, Z", "B2 BadForm 795"),
-    ("D, input", "D(65536), input", "B8 BadCell 2"),
-    ("(11)", "()", "B2 BadForm 483"),
+/// How much of what K may have, and what it is told to be then.
+const LIMITS: &[(More, &str)] = &[
+    (More::InstructionBits(2), "read"),
+    (More::InstructionBits(64), "read"),
+    (More::InstructionBits(65), "B9 TooLarge"),
+    (More::Rows(256), "read"),
+    (More::Rows(257), "B9 TooLarge"),
+    (More::Cells(4_096), "read"),
+    (More::Cells(4_097), "B9 TooLarge"),
+    (More::Users(64, 1), "read"),
+    (More::Users(65, 1), "B9 TooLarge"),
+    (More::Users(1, 4_096), "read"),
+    (More::Users(1, 4_097), "B9 TooLarge"),
+    (More::Users(1, 0), "B5 BadLength"),
 ];
 
 #[test]
-fn edges(rt: HostRuntime) -> Result<(), Fail> {
-    assert_changes(&rt, rt.alloc(), EDGES)?;
+fn limits(rt: HostRuntime) -> Result<(), Fail> {
+    for (more, wanted) in LIMITS {
+        let text = with_more(rt.alloc(), more)?;
+        assert_outcome(&rt, rt.alloc(), text.as_str(), wanted)?;
+    }
     Ok(())
 }
 

@@ -31,48 +31,47 @@ fn assert_refused(rt: &impl Abort, alloc: Global, digits: &[u8], n: usize, wante
     }
 }
 
-#[test]
-fn values(rt: HostRuntime) {
-    assert_value(&rt, rt.alloc(), b"123", 12, b"0123");
-    assert_value(&rt, rt.alloc(), b"1 2\r\n3", 12, b"0123");
-    assert_value(&rt, rt.alloc(), b"0F", 4, b"000F");
-    assert_value(&rt, rt.alloc(), b"", 5, b"0000");
-    assert_value(&rt, rt.alloc(), b" \t\n\x0b\x0c\r", 5, b"0000");
-    assert_value(&rt, rt.alloc(), b"aBcD", 16, b"ABCD");
-    assert_value(&rt, rt.alloc(), b"E", 13, b"000E");
-    assert_value(&rt, rt.alloc(), b"00000001", 1, b"0001");
-    assert_value(&rt, rt.alloc(), b"000", 0, b"0000");
-}
+/// Digits, a length, and the value that they have there.
+const VALUES: &[(&[u8], usize, &[u8; 4])] = &[
+    (b"123", 12, b"0123"),
+    (b"1 2\r\n3", 12, b"0123"),
+    (b"0F", 4, b"000F"),
+    (b"", 5, b"0000"),
+    (b" \t\n\x0b\x0c\r", 5, b"0000"),
+    (b"aBcD", 16, b"ABCD"),
+    (b"E", 13, b"000E"),
+    (b"00000001", 1, b"0001"),
+    (b"000", 0, b"0000"),
+];
+
+/// Digits and a length for which they are refused, and how.
+const REFUSED: &[(&[u8], usize, HexFault)] = &[
+    (b"1F", 4, HexFault::TooWide),
+    (b"2", 1, HexFault::TooWide),
+    (b"1", 0, HexFault::TooWide),
+    (b"0G", 4, HexFault::BadDigit(1)),
+    (b"FF FG H", 4, HexFault::BadDigit(4)),
+];
+
+/// The lines of refusals.
+const SHOWN: &[(HexFault, &str)] = &[
+    (HexFault::NoMemory, "memory"),
+    (HexFault::BadDigit(12), "byte 12 is no hexadecimal digit"),
+    (HexFault::TooWide, "the digits have a 1 beyond the length"),
+];
 
 #[test]
-fn refusals(rt: HostRuntime) {
-    assert_refused(&rt, rt.alloc(), b"1F", 4, HexFault::TooWide);
-    assert_refused(&rt, rt.alloc(), b"2", 1, HexFault::TooWide);
-    assert_refused(&rt, rt.alloc(), b"1", 0, HexFault::TooWide);
-    assert_refused(&rt, rt.alloc(), b"0G", 4, HexFault::BadDigit(1));
-    assert_refused(&rt, rt.alloc(), b"FF FG H", 4, HexFault::BadDigit(4));
-}
-
-fn assert_shown(rt: &impl Abort, alloc: Global, fault: HexFault, wanted: &str) -> Result<(), Fail> {
-    assert_eq!(rt; format!(in alloc; "{}", fault)?.as_str(), wanted);
+fn values_and_refusals(rt: HostRuntime) -> Result<(), Fail> {
+    for (digits, n, wanted) in VALUES {
+        assert_value(&rt, rt.alloc(), digits, *n, wanted);
+    }
+    for (digits, n, wanted) in REFUSED {
+        assert_refused(&rt, rt.alloc(), digits, *n, *wanted);
+    }
+    for (fault, wanted) in SHOWN {
+        assert_eq!(rt; format!(in rt.alloc(); "{fault}")?.as_str(), *wanted);
+    }
     Ok(())
-}
-
-#[test]
-fn refusals_are_shown(rt: HostRuntime) -> Result<(), Fail> {
-    assert_shown(&rt, rt.alloc(), HexFault::NoMemory, "memory")?;
-    assert_shown(
-        &rt,
-        rt.alloc(),
-        HexFault::BadDigit(12),
-        "byte 12 is no hexadecimal digit",
-    )?;
-    assert_shown(
-        &rt,
-        rt.alloc(),
-        HexFault::TooWide,
-        "the digits have a 1 beyond the length",
-    )
 }
 
 #[test]

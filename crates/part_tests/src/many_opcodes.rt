@@ -3,6 +3,7 @@ use bsdl_device::{Cell, Device, Function, Names, Opcode, Parts, Pattern, Ports};
 use jt_bits::Bits;
 use scan_registers::{Mode, SharedDevice, is_formed};
 use std::alloc::{AllocError, Global};
+use std::process::Abort;
 use std::test::Fail;
 
 /// As many opcodes as stand in a text of 4 MiB.
@@ -90,42 +91,58 @@ fn mode_of(alloc: Global, shared: &SharedDevice, digits: &[u8]) -> Result<Mode, 
     mode(shared, &latch)
 }
 
-#[test]
-fn the_first_row_of_a_code_wins(rt: HostRuntime) -> Result<(), Fail> {
-    let alloc = rt.alloc();
-    let rows: [(&str, &[&str]); 3] = [
-        ("CLAMP", &["0001", "0001"]),
-        ("HIGHZ", &["0001", "0010", "1111"]),
-        ("EXTEST", &["0010", "100", "01000"]),
-    ];
-    let shared = written(alloc, &rows, 4)?;
-    assert_eq!(rt; mode_of(alloc, &shared, b"1")?, Mode::Clamp);
-    assert_eq!(rt; mode_of(alloc, &shared, b"2")?, Mode::HighZ);
-    // all ones is BYPASS, whatever row has it, and patterns of other lengths match no code
-    assert_eq!(rt; mode_of(alloc, &shared, b"F")?, Mode::Core);
-    assert_eq!(rt; mode_of(alloc, &shared, b"4")?, Mode::Core);
-    assert_eq!(rt; mode_of(alloc, &shared, b"8")?, Mode::Core);
+/// Asserts how the instruction of each code drives the pins.
+fn assert_modes(
+    rt: &impl Abort,
+    alloc: Global,
+    shared: &SharedDevice,
+    codes: &[(&[u8], Mode)],
+) -> Result<(), Fail> {
+    for (digits, wanted) in codes {
+        assert_eq!(rt; mode_of(alloc, shared, digits)?, *wanted);
+    }
     Ok(())
 }
 
+/// Rows that have codes of others, and patterns of other lengths.
+const PLAIN_ROWS: &[(&str, &[&str])] = &[
+    ("CLAMP", &["0001", "0001"]),
+    ("HIGHZ", &["0001", "0010", "1111"]),
+    ("EXTEST", &["0010", "100", "01000"]),
+];
+
+const PLAIN_CODES: &[(&[u8], Mode)] = &[
+    (b"1", Mode::Clamp),
+    (b"2", Mode::HighZ),
+    // all ones is BYPASS, whatever row has it, and patterns of other lengths match no code
+    (b"F", Mode::Core),
+    (b"4", Mode::Core),
+    (b"8", Mode::Core),
+];
+
+/// Rows with an X.
+const ROWS_WITH_X: &[(&str, &[&str])] = &[
+    ("CLAMP", &["01XX"]),
+    ("HIGHZ", &["0101", "0001", "1X00", "1000"]),
+    ("EXTEST", &["00XX", "1X00"]),
+    ("CLAMP", &["X1X0"]),
+];
+
+const CODES_WITH_X: &[(&[u8], Mode)] = &[
+    (b"5", Mode::Clamp),
+    (b"1", Mode::HighZ),
+    (b"8", Mode::HighZ),
+    (b"C", Mode::HighZ),
+    (b"3", Mode::Extest),
+    (b"E", Mode::Clamp),
+    (b"9", Mode::Core),
+];
+
 #[test]
-fn a_row_with_an_x_wins_where_it_stands_first(rt: HostRuntime) -> Result<(), Fail> {
+fn the_first_row_of_a_code_wins(rt: HostRuntime) -> Result<(), Fail> {
     let alloc = rt.alloc();
-    let rows: [(&str, &[&str]); 4] = [
-        ("CLAMP", &["01XX"]),
-        ("HIGHZ", &["0101", "0001", "1X00", "1000"]),
-        ("EXTEST", &["00XX", "1X00"]),
-        ("CLAMP", &["X1X0"]),
-    ];
-    let shared = written(alloc, &rows, 4)?;
-    assert_eq!(rt; mode_of(alloc, &shared, b"5")?, Mode::Clamp);
-    assert_eq!(rt; mode_of(alloc, &shared, b"1")?, Mode::HighZ);
-    assert_eq!(rt; mode_of(alloc, &shared, b"8")?, Mode::HighZ);
-    assert_eq!(rt; mode_of(alloc, &shared, b"C")?, Mode::HighZ);
-    assert_eq!(rt; mode_of(alloc, &shared, b"3")?, Mode::Extest);
-    assert_eq!(rt; mode_of(alloc, &shared, b"E")?, Mode::Clamp);
-    assert_eq!(rt; mode_of(alloc, &shared, b"9")?, Mode::Core);
-    Ok(())
+    assert_modes(&rt, alloc, &written(alloc, PLAIN_ROWS, 4)?, PLAIN_CODES)?;
+    assert_modes(&rt, alloc, &written(alloc, ROWS_WITH_X, 4)?, CODES_WITH_X)
 }
 
 /// A row of one code of three words, of which two bits are 1.
@@ -139,6 +156,14 @@ fn long_row(alloc: Global, name: &str, one: usize, other: usize) -> Result<Opcod
     row(alloc, name, patterns)
 }
 
+const LONG_CODES: &[(&[u8], Mode)] = &[
+    (b"10000000000000001", Mode::Clamp),
+    (b"200000000000000000000000000000001", Mode::HighZ),
+    (b"1", Mode::Extest),
+    (b"200000000000000010000000000000001", Mode::Core),
+    (b"10000000000000000", Mode::Core),
+];
+
 #[test]
 fn codes_of_more_than_one_word(rt: HostRuntime) -> Result<(), Fail> {
     let alloc = rt.alloc();
@@ -147,18 +172,7 @@ fn codes_of_more_than_one_word(rt: HostRuntime) -> Result<(), Fail> {
     rows.push(long_row(alloc, "HIGHZ", 0, 129)?)?;
     rows.push(long_row(alloc, "EXTEST", 0, 0)?)?;
     let shared = shared(alloc, rows, 130)?;
-    assert_eq!(rt; mode_of(alloc, &shared, b"10000000000000001")?, Mode::Clamp);
-    assert_eq!(rt;
-        mode_of(alloc, &shared, b"200000000000000000000000000000001")?,
-        Mode::HighZ
-    );
-    assert_eq!(rt; mode_of(alloc, &shared, b"1")?, Mode::Extest);
-    assert_eq!(rt;
-        mode_of(alloc, &shared, b"200000000000000010000000000000001")?,
-        Mode::Core
-    );
-    assert_eq!(rt; mode_of(alloc, &shared, b"10000000000000000")?, Mode::Core);
-    Ok(())
+    assert_modes(&rt, alloc, &shared, LONG_CODES)
 }
 
 /// The code of a row of many, each of which has another.

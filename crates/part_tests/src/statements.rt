@@ -13,13 +13,6 @@ fn assert_refused(rt: &impl Abort, alloc: Global, text: &[u8], statement: usize,
     }
 }
 
-/// Asserts that the first statement of each text is refused so.
-fn assert_refusals(rt: &impl Abort, alloc: Global, rows: &[(&[u8], Code)]) {
-    for (text, code) in rows {
-        assert_refused(rt, alloc, text, 1, *code);
-    }
-}
-
 /// Asserts that the text has so many statements.
 fn assert_count(rt: &impl Abort, alloc: Global, text: &[u8], count: usize) {
     match parse(alloc, text) {
@@ -63,46 +56,21 @@ fn shown(bits: &Bits) -> [u8; 4] {
     ]
 }
 
-#[test]
-fn frequencies(rt: HostRuntime) {
-    let alloc = rt.alloc();
-    assert_count(
-        &rt,
-        alloc,
-        b"FREQUENCY 1E13 HZ; FREQUENCY 1E-6 HZ; FREQUENCY;",
-        3,
-    );
-    assert_eq!(rt; period(alloc, b"FREQUENCY 1E13 HZ;"), Some(1));
-    assert_eq!(rt;
-        period(alloc, b"FREQUENCY 1E-6 HZ;"),
-        Some(1_000_000_000_000_000_000)
-    );
-    assert_eq!(rt; period(alloc, b"FREQUENCY;"), None);
-    assert_eq!(rt; period(alloc, b"frequency 3E6 hz;"), Some(333_334));
-    assert_eq!(rt;
-        period(alloc, b"FREQUENCY 999999999999999999E18 HZ;"),
-        Some(1)
-    );
-    assert_eq!(rt; period(alloc, b"FREQUENCY .5E+06 HZ;"), Some(2_000_000));
-}
+/// A FREQUENCY, and its period.
+const PERIODS: &[(&[u8], Option<u64>)] = &[
+    (b"FREQUENCY 1E13 HZ;", Some(1)),
+    (b"FREQUENCY 1E-6 HZ;", Some(1_000_000_000_000_000_000)),
+    (b"FREQUENCY;", None),
+    (b"frequency 3E6 hz;", Some(333_334)),
+    (b"FREQUENCY 999999999999999999E18 HZ;", Some(1)),
+    (b"FREQUENCY .5E+06 HZ;", Some(2_000_000)),
+];
 
 #[test]
-fn frequencies_that_are_refused(rt: HostRuntime) {
-    let alloc = rt.alloc();
-    assert_refusals(
-        &rt,
-        alloc,
-        &[
-            (b"FREQUENCY 9E-7 HZ;", Code::TooLarge),
-            (b"FREQUENCY 0 HZ;", Code::BadNumber),
-            (b"FREQUENCY 1..2 HZ;", Code::BadNumber),
-            (b"FREQUENCY 1E HZ;", Code::BadNumber),
-            (b"FREQUENCY 1E19 HZ;", Code::TooLarge),
-            (b"FREQUENCY 0000000000000000001 HZ;", Code::TooLarge),
-            (b"FREQUENCY 1;", Code::BadForm),
-            (b"FREQUENCY ABC HZ;", Code::BadForm),
-        ],
-    );
+fn frequencies(rt: HostRuntime) {
+    for (text, wanted) in PERIODS {
+        assert_eq!(rt; period(rt.alloc(), text), *wanted);
+    }
 }
 
 /// A RUNTEST, and its count, its least and its longest time.
@@ -135,27 +103,6 @@ fn runs(rt: HostRuntime) {
     for (text, count, least, longest) in RUNS {
         assert_eq!(rt; run(rt.alloc(), text), Some((*count, *least, *longest)));
     }
-}
-
-#[test]
-fn runs_that_are_refused(rt: HostRuntime) {
-    let alloc = rt.alloc();
-    assert_refusals(
-        &rt,
-        alloc,
-        &[
-            (b"RUNTEST 4294967296 TCK;", Code::TooLarge),
-            (b"RUNTEST 1.000001E6 SEC;", Code::TooLarge),
-            (b"RUNTEST 1.5 TCK;", Code::BadNumber),
-            (b"RUNTEST 5 SCK;", Code::Unsupported),
-            (b"RUNTEST 5E12 SCK;", Code::Unsupported),
-            (b"RUNTEST 5.5 SCK 1E9 SEC;", Code::BadNumber),
-            (b"RUNTEST IDLE;", Code::BadForm),
-            (b"RUNTEST 5 TCK MAXIMUM 1 SEC;", Code::BadForm),
-            (b"RUNTEST 1 SEC 5 TCK;", Code::BadForm),
-            (b"RUNTEST 5 TCK ENDSTATE;", Code::BadForm),
-        ],
-    );
 }
 
 /// A scan's TDI, TDO, MASK and SMASK, each as four digits and how many bits are written.
@@ -199,32 +146,6 @@ fn scans(rt: HostRuntime) {
             ],
         ))
     );
-    assert_count(
-        &rt,
-        alloc,
-        b"HDR 0; HIR 0; TDR 1 TDI (1); TIR 0; SIR 2 TDI (3); SDR 0;",
-        6,
-    );
-    assert_count(&rt, alloc, b"SDR 4 TDI (0F);", 1);
-}
-
-#[test]
-fn scans_that_are_refused(rt: HostRuntime) {
-    let alloc = rt.alloc();
-    assert_refusals(
-        &rt,
-        alloc,
-        &[
-            (b"SDR 4 TDI (1F);", Code::TooWide),
-            (b"SDR 8 TDI (0G);", Code::BadNumber),
-            (b"SDR 1E1 TDI (0);", Code::BadNumber),
-            (b"SDR 4 TDI (1) TDI (1);", Code::BadForm),
-            (b"SDR TDI (1);", Code::BadForm),
-            (b"SDR 4 TDI 1;", Code::BadForm),
-            (b"SDR 4 TDI (1;", Code::BadForm),
-            (b"SDR 4 TDI ((1));", Code::BadForm),
-        ],
-    );
 }
 
 /// The TDI bits of a scan as they are written, how many they are, and the scan's length.
@@ -238,41 +159,20 @@ fn written(alloc: Global, text: &[u8]) -> Option<([u8; 4], usize, usize)> {
     }
 }
 
-#[test]
-fn a_field_has_the_bits_that_are_written(rt: HostRuntime) {
-    let alloc = rt.alloc();
-    assert_eq!(rt; written(alloc, b"SDR 5 TDI (15);"), Some((*b"0015", 5, 5)));
-    assert_eq!(rt; written(alloc, b"SIR 2 TDI (003);"), Some((*b"0003", 2, 2)));
-    assert_eq!(rt;
-        written(alloc, b"HDR 13 TDI (A5);"),
-        Some((*b"00A5", 8, 13))
-    );
-    assert_eq!(rt;
-        written(alloc, b"SDR 1048576 TDI (0);"),
-        Some((*b"0000", 4, 1_048_576))
-    );
-    assert_eq!(rt;
-        written(alloc, b"SDR 1048576 TDI ();"),
-        Some((*b"0000", 0, 1_048_576))
-    );
-}
+/// A scan, its lowest digits as they are written, how many bits those are, and its length.
+const WRITTEN: &[(&[u8], &[u8; 4], usize, usize)] = &[
+    (b"SDR 5 TDI (15);", b"0015", 5, 5),
+    (b"SIR 2 TDI (003);", b"0003", 2, 2),
+    (b"HDR 13 TDI (A5);", b"00A5", 8, 13),
+    (b"SDR 1048576 TDI (0);", b"0000", 4, 1_048_576),
+    (b"SDR 1048576 TDI ();", b"0000", 0, 1_048_576),
+];
 
 #[test]
-fn the_lowest_number_is_told(rt: HostRuntime) {
-    let alloc = rt.alloc();
-    assert_count(&rt, alloc, b"SDR 65537 TDI (0);", 1);
-    assert_count(&rt, alloc, b"SDR 1048576 TDI (0);", 1);
-    assert_refusals(
-        &rt,
-        alloc,
-        &[
-            (b"SDR 1048577 TDI (0);", Code::TooLarge),
-            (b"SDR 1048577 TDI (1F);", Code::TooLarge),
-            (b"SDR 999999999999999999 TDI (1F) TDO (G);", Code::BadNumber),
-            (b"SDR 9999999999999999999 TDI (1F);", Code::TooLarge),
-            (b"SDR 4 TDI (1F) TDO (G);", Code::BadNumber),
-        ],
-    );
+fn a_field_has_the_bits_that_are_written(rt: HostRuntime) {
+    for (text, digits, bits, len) in WRITTEN {
+        assert_eq!(rt; written(rt.alloc(), text), Some((**digits, *bits, *len)));
+    }
 }
 
 #[test]
@@ -344,43 +244,87 @@ fn states(rt: HostRuntime) -> Result<(), Fail> {
     Ok(())
 }
 
-#[test]
-fn states_and_ports_that_are_refused(rt: HostRuntime) {
-    let alloc = rt.alloc();
-    assert_refusals(
-        &rt,
-        alloc,
-        &[
-            (b"STATE;", Code::BadForm),
-            (b"STATE IDLE FOO;", Code::BadForm),
-            (b"ENDDR IDLE IDLE;", Code::BadForm),
-            (b"TRST;", Code::BadForm),
-            (b"PIO (HL);", Code::Unsupported),
-            (b"PIOMAP (IN A OUT B) ) 1;", Code::Unsupported),
-        ],
-    );
-}
+/// Texts, and how many statements each has.
+const COUNTED: &[(&[u8], usize)] = &[
+    (b"", 0),
+    (b";;", 0),
+    (b"SDR 0;", 1),
+    (b"SIR 2 TDI (3); SIR 2 TDO (1);", 2),
+    (b"FREQUENCY 1E13 HZ; FREQUENCY 1E-6 HZ; FREQUENCY;", 3),
+    (
+        b"HDR 0; HIR 0; TDR 1 TDI (1); TIR 0; SIR 2 TDI (3); SDR 0;",
+        6,
+    ),
+    (b"SDR 4 TDI (0F);", 1),
+    (b"SDR 65537 TDI (0);", 1),
+    (b"SDR 1048576 TDI (0);", 1),
+];
+
+/// Texts, the statement at which each is refused, and how.
+const REFUSED: &[(&[u8], usize, Code)] = &[
+    // frequencies and runs
+    (b"FREQUENCY 9E-7 HZ;", 1, Code::TooLarge),
+    (b"FREQUENCY 0 HZ;", 1, Code::BadNumber),
+    (b"FREQUENCY 1..2 HZ;", 1, Code::BadNumber),
+    (b"FREQUENCY 1E HZ;", 1, Code::BadNumber),
+    (b"FREQUENCY 1E19 HZ;", 1, Code::TooLarge),
+    (b"FREQUENCY 0000000000000000001 HZ;", 1, Code::TooLarge),
+    (b"FREQUENCY 1;", 1, Code::BadForm),
+    (b"FREQUENCY ABC HZ;", 1, Code::BadForm),
+    (b"RUNTEST 4294967296 TCK;", 1, Code::TooLarge),
+    (b"RUNTEST 1.000001E6 SEC;", 1, Code::TooLarge),
+    (b"RUNTEST 1.5 TCK;", 1, Code::BadNumber),
+    (b"RUNTEST 5 SCK;", 1, Code::Unsupported),
+    (b"RUNTEST 5E12 SCK;", 1, Code::Unsupported),
+    (b"RUNTEST 5.5 SCK 1E9 SEC;", 1, Code::BadNumber),
+    (b"RUNTEST IDLE;", 1, Code::BadForm),
+    (b"RUNTEST 5 TCK MAXIMUM 1 SEC;", 1, Code::BadForm),
+    (b"RUNTEST 1 SEC 5 TCK;", 1, Code::BadForm),
+    (b"RUNTEST 5 TCK ENDSTATE;", 1, Code::BadForm),
+    // scans
+    (b"SDR 4 TDI (1F);", 1, Code::TooWide),
+    (b"SDR 8 TDI (0G);", 1, Code::BadNumber),
+    (b"SDR 1E1 TDI (0);", 1, Code::BadNumber),
+    (b"SDR 4 TDI (1) TDI (1);", 1, Code::BadForm),
+    (b"SDR TDI (1);", 1, Code::BadForm),
+    (b"SDR 4 TDI 1;", 1, Code::BadForm),
+    (b"SDR 4 TDI (1;", 1, Code::BadForm),
+    (b"SDR 4 TDI ((1));", 1, Code::BadForm),
+    // of several refusals that of the lowest number
+    (b"SDR 1048577 TDI (0);", 1, Code::TooLarge),
+    (b"SDR 1048577 TDI (1F);", 1, Code::TooLarge),
+    (
+        b"SDR 999999999999999999 TDI (1F) TDO (G);",
+        1,
+        Code::BadNumber,
+    ),
+    (b"SDR 9999999999999999999 TDI (1F);", 1, Code::TooLarge),
+    (b"SDR 4 TDI (1F) TDO (G);", 1, Code::BadNumber),
+    // states and ports
+    (b"STATE;", 1, Code::BadForm),
+    (b"STATE IDLE FOO;", 1, Code::BadForm),
+    (b"ENDDR IDLE IDLE;", 1, Code::BadForm),
+    (b"TRST;", 1, Code::BadForm),
+    (b"PIO (HL);", 1, Code::Unsupported),
+    (b"PIOMAP (IN A OUT B) ) 1;", 1, Code::Unsupported),
+    // the statement at fault, and the place of a byte
+    (b"SDR 4; FOO;", 2, Code::UnknownCommand),
+    (b";;SDR 4;; ;FOO; #", 2, Code::UnknownCommand),
+    (b"STATE DRCAPTURE; FOO;", 2, Code::UnknownCommand),
+    (b"SDR 4 TDI (F", 1, Code::Unclosed(0)),
+    (b"SDR 4 TDI (F);  STATE", 2, Code::Unclosed(16)),
+    (b"SDR 4 # ;", 1, Code::BadByte(6)),
+    (b"FOO FOO /;", 1, Code::BadByte(8)),
+];
 
 #[test]
-fn statements_are_counted(rt: HostRuntime) {
-    let alloc = rt.alloc();
-    assert_count(&rt, alloc, b"", 0);
-    assert_count(&rt, alloc, b";;", 0);
-    assert_count(&rt, alloc, b"SDR 0;", 1);
-    assert_count(&rt, alloc, b"SIR 2 TDI (3); SIR 2 TDO (1);", 2);
-    assert_refused(&rt, alloc, b"SDR 4; FOO;", 2, Code::UnknownCommand);
-    assert_refused(&rt, alloc, b";;SDR 4;; ;FOO; #", 2, Code::UnknownCommand);
-    assert_refused(
-        &rt,
-        alloc,
-        b"STATE DRCAPTURE; FOO;",
-        2,
-        Code::UnknownCommand,
-    );
-    assert_refused(&rt, alloc, b"SDR 4 TDI (F", 1, Code::Unclosed(0));
-    assert_refused(&rt, alloc, b"SDR 4 TDI (F);  STATE", 2, Code::Unclosed(16));
-    assert_refused(&rt, alloc, b"SDR 4 # ;", 1, Code::BadByte(6));
-    assert_refused(&rt, alloc, b"FOO FOO /;", 1, Code::BadByte(8));
+fn statements_are_counted_or_refused(rt: HostRuntime) {
+    for (text, count) in COUNTED {
+        assert_count(&rt, rt.alloc(), text, *count);
+    }
+    for (text, statement, code) in REFUSED {
+        assert_refused(&rt, rt.alloc(), text, *statement, *code);
+    }
 }
 
 #[test]
@@ -427,36 +371,24 @@ const SHOWN: &[(Code, &str)] = &[
     (Code::NoMemory, "S16 NoMemory"),
 ];
 
+/// Refusals of statements, and the line of each.
+const LINES: &[(usize, Code, &str)] = &[
+    (1, Code::TooWide, "svf S6 TooWide statement 1"),
+    (12, Code::BadByte(6), "svf S1 BadByte statement 12"),
+    (0, Code::NoMemory, "memory"),
+];
+
 #[test]
 fn refusals_are_printed(rt: HostRuntime) -> Result<(), Fail> {
-    let wide = SvfFault {
-        statement: 1,
-        code: Code::TooWide,
-    };
-    assert_eq!(rt;
-        format!(in rt.alloc(); "{}", wide)?.as_str(),
-        "svf S6 TooWide statement 1"
-    );
-    let bad = SvfFault {
-        statement: 12,
-        code: Code::BadByte(6),
-    };
-    assert_eq!(rt;
-        format!(in rt.alloc(); "{}", bad)?.as_str(),
-        "svf S1 BadByte statement 12"
-    );
-    let memory = SvfFault {
-        statement: 0,
-        code: Code::NoMemory,
-    };
-    assert_eq!(rt; format!(in rt.alloc(); "{}", memory)?.as_str(), "memory");
-    assert_shown(&rt, rt.alloc(), SHOWN)
-}
-
-/// Asserts that each refusal is shown as its number and its name.
-fn assert_shown(rt: &impl Abort, alloc: Global, rows: &[(Code, &str)]) -> Result<(), Fail> {
-    for (code, shown) in rows {
-        assert_eq!(rt; format!(in alloc; "{}", *code)?.as_str(), *shown);
+    for (statement, code, line) in LINES {
+        let fault = SvfFault {
+            statement: *statement,
+            code: *code,
+        };
+        assert_eq!(rt; format!(in rt.alloc(); "{fault}")?.as_str(), *line);
+    }
+    for (code, shown) in SHOWN {
+        assert_eq!(rt; format!(in rt.alloc(); "{}", *code)?.as_str(), *shown);
     }
     Ok(())
 }

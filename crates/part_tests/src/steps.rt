@@ -2,7 +2,6 @@
 use jt_tap::State;
 use scan_vectors::Vector;
 use std::alloc::{AllocError, Global};
-use std::process::Abort;
 use std::test::Fail;
 use svf_parse::{SvfFault, parse};
 use svf_programs::{Action, Program, Step};
@@ -110,188 +109,144 @@ fn shown(alloc: Global, step: Step) -> Result<String, AllocError> {
     }
 }
 
-fn assert_told(rt: &impl Abort, alloc: Global, rows: &[(&[u8], &str)]) -> Result<(), Fail> {
-    for (text, wanted) in rows {
-        let told = told(alloc, text)?;
-        assert_eq!(rt; told.as_str(), *wanted);
+/// Texts, and what each is told to be.
+const TOLD: &[(&[u8], &str)] = &[
+    // what a statement says for itself comes first, wherever it stands
+    (
+        b"STATE DRCAPTURE; FOO;",
+        "svf S3 UnknownCommand statement 2",
+    ),
+    (b"SDR 4; FOO;", "svf S3 UnknownCommand statement 2"),
+    (b"SDR 4 TDI (1F);", "svf S6 TooWide statement 1"),
+    // then the first faulty statement, and of its own refusals the lowest
+    (b"SDR 0; STATE DRCAPTURE;", "svf S12 EmptyScan statement 1"),
+    (b"HDR 0; ENDDR DRSHIFT;", "svf S8 BadState statement 2"),
+    (b"TRST ON; SDR 4;", "svf S7 MissingTdi statement 2"),
+    (b"SDR 4;", "svf S7 MissingTdi statement 1"),
+    (b"SDR 4 TDI (1); HDR 4;", "svf S7 MissingTdi statement 2"),
+    (
+        b"SIR 2 TDI (3); SIR 3 TDO (1);",
+        "svf S7 MissingTdi statement 2",
+    ),
+    (b"STATE DRPAUSE IDLE;", "svf S9 BadPath statement 1"),
+    // fields that are taken over
+    (
+        b"SDR 4 TDI (0F);",
+        "1; 1 Dr Data0 Data1 Data2 Data3 1111 xxxx IDLE",
+    ),
+    (
+        b"SIR 2 TDI (3); SIR 2 TDO (1);",
+        "2; 1 Ir Data0 Data1 11 xx IDLE; 2 Ir Data0 Data1 11 10 IDLE",
+    ),
+    // a mask is not kept past a change of length, and a TDO not at all
+    (
+        b"SIR 2 TDI (3); SDR 8 TDI (00) TDO (F0) MASK (0F); SDR 4 TDI (0) TDO (0); SDR 8 TDI (00) TDO (F0);",
+        "4; 1 Ir Data0 Data1 11 xx IDLE; \
+         2 Dr Data0 Data1 Data2 Data3 Data4 Data5 Data6 Data7 00000000 0000xxxx IDLE; \
+         3 Dr Data0 Data1 Data2 Data3 0000 0000 IDLE; \
+         4 Dr Data0 Data1 Data2 Data3 Data4 Data5 Data6 Data7 00000000 00001111 IDLE",
+    ),
+    (
+        b"SDR 2 TDI (0) TDO (2) MASK (1); SDR 2 TDO (3); SDR 1 TDI (0); SDR 2 TDI (0) TDO (2); SDR 2;",
+        "5; 1 Dr Data0 Data1 00 0x IDLE; 2 Dr Data0 Data1 00 1x IDLE; 3 Dr Data0 0 x IDLE; \
+         4 Dr Data0 Data1 00 01 IDLE; 5 Dr Data0 Data1 00 xx IDLE",
+    ),
+    // headers and trailers
+    (
+        b"HDR 1 TDI (1) TDO (1); TDR 2 TDI (1) TDO (2) MASK (2); SDR 1 TDI (0); SDR 1 TDO (1);",
+        "4; 3 Dr Header0 Data0 Trailer0 Trailer1 1010 1xx1 IDLE; \
+        4 Dr Header0 Data0 Trailer0 Trailer1 1010 11x1 IDLE",
+    ),
+    // a header of the other column does not count, and one of length 0 takes it away
+    (
+        b"HIR 1 TDI (1); HDR 1 TDI (1); SDR 1 TDI (0); HDR 0; SDR 1; SIR 1 TDI (0);",
+        "6; 3 Dr Header0 Data0 10 xx IDLE; 5 Dr Data0 0 x IDLE; 6 Ir Header0 Data0 10 xx IDLE",
+    ),
+    // ends and paths
+    (
+        b"SIR 4 TDI (0); ENDDR DRPAUSE; SDR 6 TDI (1B); TRST ON;",
+        "4; 1 Ir Data0 Data1 Data2 Data3 0000 xxxx IDLE; \
+         3 Dr Data0 Data1 Data2 Data3 Data4 Data5 110110 xxxxxx DRPAUSE; 4 On",
+    ),
+    (
+        b"SIR 2 TDI (3); STATE DRSELECT DRCAPTURE DRSHIFT DRSHIFT DREXIT1 DRUPDATE IDLE;",
+        "2; 1 Ir Data0 Data1 11 xx IDLE; 2 DRSELECT DRCAPTURE DRSHIFT DRSHIFT DREXIT1 DRUPDATE IDLE",
+    ),
+    (
+        b"SIR 2 TDI (3); STATE DRSELECT DRCAPTURE DRSHIFT DRSHIFT DRUPDATE IDLE;",
+        "svf S9 BadPath statement 2",
+    ),
+    // the line TRST
+    (b"TRST ON; TRST OFF; STATE IDLE;", "3; 1 On; 2 Off; 3 IDLE"),
+    (b"TRST ON; STATE IDLE;", "svf S10 TrstHeld statement 2"),
+    (
+        b"TRST ON; STATE RESET; RUNTEST RESET 5 TCK;",
+        "3; 1 On; 2 RESET; 3 5 in RESET to RESET",
+    ),
+    // a path that leaves RESET and comes back
+    (
+        b"TRST ON; STATE IDLE DRSELECT IRSELECT RESET;",
+        "svf S10 TrstHeld statement 2",
+    ),
+    (b"TRST ON; TRST ABSENT;", "svf S10 TrstHeld statement 2"),
+    (b"TRST ABSENT; TRST OFF;", "svf S11 TrstAbsent statement 2"),
+    (b"TRST ABSENT; TRST ABSENT;", "2; 1 Absent; 2 Absent"),
+    // runs
+    (
+        b"FREQUENCY 3E6 HZ; RUNTEST 1E-6 SEC;",
+        "2; 2 3 in IDLE to IDLE",
+    ),
+    (
+        b"FREQUENCY 3E6 HZ; RUNTEST 5 TCK 1E-6 SEC MAXIMUM 1E-6 SEC;",
+        "svf S14 TooSlow statement 2",
+    ),
+    // the end state that is named stays the end
+    (
+        b"RUNTEST DRPAUSE 2 TCK ENDSTATE IDLE; RUNTEST 1 TCK; RUNTEST RESET 0 TCK; RUNTEST 4 TCK;",
+        "4; 1 2 in DRPAUSE to IDLE; 2 1 in DRPAUSE to IDLE; 3 0 in RESET to RESET; 4 4 in RESET to RESET",
+    ),
+    // the period by default is a microsecond
+    (b"RUNTEST 2.5E-6 SEC;", "1; 1 3 in IDLE to IDLE"),
+    // at the limits, and beyond what 64 bits hold
+    (
+        b"RUNTEST 4294967295 TCK;",
+        "1; 1 4294967295 in IDLE to IDLE",
+    ),
+    (
+        b"FREQUENCY 1E12 HZ; RUNTEST 4294967295E-12 SEC;",
+        "2; 2 4294967295 in IDLE to IDLE",
+    ),
+    (
+        b"FREQUENCY 1E12 HZ; RUNTEST 4294967296E-12 SEC;",
+        "svf S15 TooLarge statement 2",
+    ),
+    (
+        b"FREQUENCY 1E12 HZ; RUNTEST 1E6 SEC;",
+        "svf S15 TooLarge statement 2",
+    ),
+    (
+        b"FREQUENCY 1E-6 HZ; RUNTEST 1 TCK 1E6 SEC MAXIMUM 1E6 SEC;",
+        "2; 2 1 in IDLE to IDLE",
+    ),
+    (
+        b"FREQUENCY 1E-6 HZ; RUNTEST 4294967295 TCK 1E-12 SEC MAXIMUM 1E6 SEC;",
+        "svf S14 TooSlow statement 2",
+    ),
+    // vectors above the longest
+    (b"SDR 1048577 TDI (0);", "svf S15 TooLarge statement 1"),
+    (
+        b"HDR 1 TDI (0); SDR 1048576 TDI (0);",
+        "svf S15 TooLarge statement 2",
+    ),
+];
+
+#[test]
+fn texts(rt: HostRuntime) -> Result<(), Fail> {
+    for (text, wanted) in TOLD {
+        let told = told(rt.alloc(), text)?;
+        assert_eq!(&rt; told.as_str(), *wanted);
     }
     Ok(())
-}
-
-#[test]
-fn refusals(rt: HostRuntime) -> Result<(), Fail> {
-    assert_told(
-        &rt,
-        rt.alloc(),
-        &[
-            // what a statement says for itself comes first, wherever it stands
-            (
-                b"STATE DRCAPTURE; FOO;",
-                "svf S3 UnknownCommand statement 2",
-            ),
-            (b"SDR 4; FOO;", "svf S3 UnknownCommand statement 2"),
-            (b"SDR 4 TDI (1F);", "svf S6 TooWide statement 1"),
-            // then the first faulty statement, and of its own refusals the lowest
-            (b"SDR 0; STATE DRCAPTURE;", "svf S12 EmptyScan statement 1"),
-            (b"HDR 0; ENDDR DRSHIFT;", "svf S8 BadState statement 2"),
-            (b"TRST ON; SDR 4;", "svf S7 MissingTdi statement 2"),
-            (b"SDR 4;", "svf S7 MissingTdi statement 1"),
-            (b"SDR 4 TDI (1); HDR 4;", "svf S7 MissingTdi statement 2"),
-            (
-                b"SIR 2 TDI (3); SIR 3 TDO (1);",
-                "svf S7 MissingTdi statement 2",
-            ),
-            (b"STATE DRPAUSE IDLE;", "svf S9 BadPath statement 1"),
-        ],
-    )
-}
-
-#[test]
-fn fields_that_are_taken_over(rt: HostRuntime) -> Result<(), Fail> {
-    assert_told(
-        &rt,
-        rt.alloc(),
-        &[
-            (
-                b"SDR 4 TDI (0F);",
-                "1; 1 Dr Data0 Data1 Data2 Data3 1111 xxxx IDLE",
-            ),
-            (
-                b"SIR 2 TDI (3); SIR 2 TDO (1);",
-                "2; 1 Ir Data0 Data1 11 xx IDLE; 2 Ir Data0 Data1 11 10 IDLE",
-            ),
-            // a mask is not kept past a change of length, and a TDO not at all
-            (
-                b"SIR 2 TDI (3); SDR 8 TDI (00) TDO (F0) MASK (0F); SDR 4 TDI (0) TDO (0); SDR 8 TDI (00) TDO (F0);",
-                "4; 1 Ir Data0 Data1 11 xx IDLE; \
-                 2 Dr Data0 Data1 Data2 Data3 Data4 Data5 Data6 Data7 00000000 0000xxxx IDLE; \
-                 3 Dr Data0 Data1 Data2 Data3 0000 0000 IDLE; \
-                 4 Dr Data0 Data1 Data2 Data3 Data4 Data5 Data6 Data7 00000000 00001111 IDLE",
-            ),
-            (
-                b"SDR 2 TDI (0) TDO (2) MASK (1); SDR 2 TDO (3); SDR 1 TDI (0); SDR 2 TDI (0) TDO (2); SDR 2;",
-                "5; 1 Dr Data0 Data1 00 0x IDLE; 2 Dr Data0 Data1 00 1x IDLE; 3 Dr Data0 0 x IDLE; \
-                 4 Dr Data0 Data1 00 01 IDLE; 5 Dr Data0 Data1 00 xx IDLE",
-            ),
-        ],
-    )
-}
-
-#[test]
-fn headers_and_trailers(rt: HostRuntime) -> Result<(), Fail> {
-    assert_told(
-        &rt,
-        rt.alloc(),
-        &[
-            (
-                b"HDR 1 TDI (1) TDO (1); TDR 2 TDI (1) TDO (2) MASK (2); SDR 1 TDI (0); SDR 1 TDO (1);",
-                "4; 3 Dr Header0 Data0 Trailer0 Trailer1 1010 1xx1 IDLE; \
-                4 Dr Header0 Data0 Trailer0 Trailer1 1010 11x1 IDLE",
-            ),
-            // a header of the other column does not count, and one of length 0 takes it away
-            (
-                b"HIR 1 TDI (1); HDR 1 TDI (1); SDR 1 TDI (0); HDR 0; SDR 1; SIR 1 TDI (0);",
-                "6; 3 Dr Header0 Data0 10 xx IDLE; 5 Dr Data0 0 x IDLE; 6 Ir Header0 Data0 10 xx IDLE",
-            ),
-        ],
-    )
-}
-
-#[test]
-fn ends_and_paths(rt: HostRuntime) -> Result<(), Fail> {
-    assert_told(
-        &rt,
-        rt.alloc(),
-        &[
-            (
-                b"SIR 4 TDI (0); ENDDR DRPAUSE; SDR 6 TDI (1B); TRST ON;",
-                "4; 1 Ir Data0 Data1 Data2 Data3 0000 xxxx IDLE; \
-                 3 Dr Data0 Data1 Data2 Data3 Data4 Data5 110110 xxxxxx DRPAUSE; 4 On",
-            ),
-            (
-                b"SIR 2 TDI (3); STATE DRSELECT DRCAPTURE DRSHIFT DRSHIFT DREXIT1 DRUPDATE IDLE;",
-                "2; 1 Ir Data0 Data1 11 xx IDLE; 2 DRSELECT DRCAPTURE DRSHIFT DRSHIFT DREXIT1 DRUPDATE IDLE",
-            ),
-            (
-                b"SIR 2 TDI (3); STATE DRSELECT DRCAPTURE DRSHIFT DRSHIFT DRUPDATE IDLE;",
-                "svf S9 BadPath statement 2",
-            ),
-        ],
-    )
-}
-
-#[test]
-fn the_line_trst(rt: HostRuntime) -> Result<(), Fail> {
-    assert_told(
-        &rt,
-        rt.alloc(),
-        &[
-            (b"TRST ON; TRST OFF; STATE IDLE;", "3; 1 On; 2 Off; 3 IDLE"),
-            (b"TRST ON; STATE IDLE;", "svf S10 TrstHeld statement 2"),
-            (
-                b"TRST ON; STATE RESET; RUNTEST RESET 5 TCK;",
-                "3; 1 On; 2 RESET; 3 5 in RESET to RESET",
-            ),
-            // a path that leaves RESET and comes back
-            (
-                b"TRST ON; STATE IDLE DRSELECT IRSELECT RESET;",
-                "svf S10 TrstHeld statement 2",
-            ),
-            (b"TRST ON; TRST ABSENT;", "svf S10 TrstHeld statement 2"),
-            (b"TRST ABSENT; TRST OFF;", "svf S11 TrstAbsent statement 2"),
-            (b"TRST ABSENT; TRST ABSENT;", "2; 1 Absent; 2 Absent"),
-        ],
-    )
-}
-
-#[test]
-fn runs(rt: HostRuntime) -> Result<(), Fail> {
-    assert_told(
-        &rt,
-        rt.alloc(),
-        &[
-            (
-                b"FREQUENCY 3E6 HZ; RUNTEST 1E-6 SEC;",
-                "2; 2 3 in IDLE to IDLE",
-            ),
-            (
-                b"FREQUENCY 3E6 HZ; RUNTEST 5 TCK 1E-6 SEC MAXIMUM 1E-6 SEC;",
-                "svf S14 TooSlow statement 2",
-            ),
-            // the end state that is named stays the end
-            (
-                b"RUNTEST DRPAUSE 2 TCK ENDSTATE IDLE; RUNTEST 1 TCK; RUNTEST RESET 0 TCK; RUNTEST 4 TCK;",
-                "4; 1 2 in DRPAUSE to IDLE; 2 1 in DRPAUSE to IDLE; 3 0 in RESET to RESET; 4 4 in RESET to RESET",
-            ),
-            // the period by default is a microsecond
-            (b"RUNTEST 2.5E-6 SEC;", "1; 1 3 in IDLE to IDLE"),
-            // at the limits, and beyond what 64 bits hold
-            (
-                b"RUNTEST 4294967295 TCK;",
-                "1; 1 4294967295 in IDLE to IDLE",
-            ),
-            (
-                b"FREQUENCY 1E12 HZ; RUNTEST 4294967295E-12 SEC;",
-                "2; 2 4294967295 in IDLE to IDLE",
-            ),
-            (
-                b"FREQUENCY 1E12 HZ; RUNTEST 4294967296E-12 SEC;",
-                "svf S15 TooLarge statement 2",
-            ),
-            (
-                b"FREQUENCY 1E12 HZ; RUNTEST 1E6 SEC;",
-                "svf S15 TooLarge statement 2",
-            ),
-            (
-                b"FREQUENCY 1E-6 HZ; RUNTEST 1 TCK 1E6 SEC MAXIMUM 1E6 SEC;",
-                "2; 2 1 in IDLE to IDLE",
-            ),
-            (
-                b"FREQUENCY 1E-6 HZ; RUNTEST 4294967295 TCK 1E-12 SEC MAXIMUM 1E6 SEC;",
-                "svf S14 TooSlow statement 2",
-            ),
-        ],
-    )
 }
 
 /// How many steps a text has, and how many bits they scan, where these are the same read statement by statement as by
@@ -323,17 +278,7 @@ fn long_vectors(rt: HostRuntime) -> Result<(), Fail> {
         sizes(rt.alloc(), b"HDR 1 TDI (0); SDR 1048575 TDI (0);"),
         Some((1, 1_048_576))
     );
-    assert_told(
-        &rt,
-        rt.alloc(),
-        &[
-            (b"SDR 1048577 TDI (0);", "svf S15 TooLarge statement 1"),
-            (
-                b"HDR 1 TDI (0); SDR 1048576 TDI (0);",
-                "svf S15 TooLarge statement 2",
-            ),
-        ],
-    )
+    Ok(())
 }
 
 /// A short text may mean many bits: they take no memory.

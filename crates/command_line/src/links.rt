@@ -1,6 +1,6 @@
 //! The connections of the program: as a client, as a server, and with itself.
 
-use command_line::Server;
+use crate::request::Server;
 use std::io;
 use std::io::ErrorKind;
 use std::net::{Ipv4Addr, TcpListener, TcpStream, ToSocketAddrs};
@@ -11,9 +11,11 @@ const ANY_PORT: u16 = 0;
 
 /// A connection, read and written by a handle each.
 #[derive(Drop)]
-pub(crate) struct Link {
-    pub(crate) reader: TcpStream,
-    pub(crate) writer: TcpStream,
+pub struct Link {
+    /// What is read from.
+    pub reader: TcpStream,
+    /// What is written to.
+    pub writer: TcpStream,
 }
 
 impl Link {
@@ -31,7 +33,7 @@ impl Link {
 }
 
 /// Connects to a server, whose addresses are tried in turn.
-pub(crate) fn connect(rt: &HostRuntime, server: Server<'_>) -> io::Result<Link> {
+pub fn connect(rt: &HostRuntime, server: Server<'_>) -> io::Result<Link> {
     Link::new(open(rt, server)?, server.timeout)
 }
 
@@ -51,18 +53,18 @@ fn open(rt: &HostRuntime, server: Server<'_>) -> io::Result<TcpStream> {
 }
 
 /// Listens on a port of this machine alone.
-pub(crate) fn listen(rt: &HostRuntime, port: u16) -> io::Result<TcpListener> {
+pub fn listen(rt: &HostRuntime, port: u16) -> io::Result<TcpListener> {
     TcpListener::bind(rt, (Ipv4Addr::LOCALHOST, port))
 }
 
 /// Waits for the next client.
-pub(crate) fn accept(listener: &TcpListener, timeout: Option<u32>) -> io::Result<Link> {
+pub fn accept(listener: &TcpListener, timeout: Option<u32>) -> io::Result<Link> {
     let (stream, _) = listener.accept()?;
     Link::new(stream, timeout)
 }
 
 /// Both ends of one connection of the program with itself: the player's, and the board's.
-pub(crate) fn pair(rt: &HostRuntime) -> io::Result<(TcpStream, TcpStream)> {
+pub fn pair(rt: &HostRuntime) -> io::Result<(TcpStream, TcpStream)> {
     let listener = listen(rt, ANY_PORT)?;
     let player_end = TcpStream::connect(rt, listener.local_addr()?)?;
     let (board_end, _) = listener.accept()?;
