@@ -138,12 +138,22 @@ fn byte_in_state(
     let mut board = Board::bare(alloc, 2)?;
     cycles(&mut board, way);
     assert_eq!(rt; state_of(rt, &board), state);
-    let before = shown(rt, alloc, &board)?;
+    assert_taken(rt, alloc, &mut board, byte, state)
+}
+
+/// Asserts what a board in this state replies to a byte, and that one that is refused leaves it as it was.
+fn assert_taken(
+    rt: &impl Abort,
+    alloc: Global,
+    board: &mut Board,
+    byte: u8,
+    state: State,
+) -> Result<(), Fail> {
+    let before = shown(rt, alloc, board)?;
     let reply = board.byte(byte);
     assert_eq!(rt; reply, reply_to(byte, state), "{byte} in {state:?}");
     if reply == Reply::Refused(byte) {
-        let after = shown(rt, alloc, &board)?;
-        assert_eq!(rt; before.as_slice(), after.as_slice());
+        assert_shown(rt, alloc, board, &before)?;
     }
     Ok(())
 }
@@ -185,35 +195,47 @@ fn boards_of_every_size(rt: HostRuntime) -> Result<(), Fail> {
 fn assert_opens(rt: &impl Abort, alloc: Global, n: usize) -> Result<(), Fail> {
     let mut board = Board::bare(alloc, n)?;
     assert_eq!(rt; board.snapshot().devices(), n);
-    let fresh = shown(rt, alloc, &board)?;
+    assert_opened(rt, alloc, &mut board)
+}
+
+/// Asserts that a board is after the opening as before.
+fn assert_opened(rt: &impl Abort, alloc: Global, board: &mut Board) -> Result<(), Fail> {
+    let fresh = shown(rt, alloc, board)?;
     for byte in b"r26262626260".as_slice() {
         assert_eq!(rt; board.byte(*byte), Reply::Nothing);
     }
-    let opened = shown(rt, alloc, &board)?;
-    assert_eq!(rt; fresh.as_slice(), opened.as_slice());
-    Ok(())
+    Ok(assert_shown(rt, alloc, board, &fresh)?)
 }
 
-/// At power-up: the latch of BYPASS, every stage 0; after EXTEST and a scan of 1 that rests in its pause, the boundary
-/// stage holds the 1 and the update stage not yet.
+/// At power-up: the latch of BYPASS, every stage 0.
+const POWERED_UP: &[u8] =
+    b"\x00\x00U1RESET\x01\x01\x02\x00\x00\x02\x00\x02\x00\x02\x00\x03\x03BYPASS";
+/// After EXTEST and a scan of 1 that rests in its pause: the boundary stage holds the 1, and the update stage not yet.
+const IN_PAUSE: &[u8] =
+    b"\x00\x00U1DRPAUSE\x00\x00\x02\x00\x00\x02\x01\x02\x00\x02\x00\x03\x03EXTEST";
+/// And then updated.
+const UPDATED: &[u8] =
+    b"\x00\x00U1DRUPDATE\x00\x00\x02\x00\x00\x02\x01\x02\x01\x02\x00\x03\x03EXTEST";
+
 #[test]
 fn registers_of_a_device(rt: HostRuntime) -> Result<(), Fail> {
-    let alloc = rt.alloc();
-    let mut board = Board::bare(alloc, 1)?;
-    let powered_up = b"\x00\x00U1RESET\x01\x01\x02\x00\x00\x02\x00\x02\x00\x02\x00\x03\x03BYPASS";
-    assert_shown(&rt, alloc, &board, powered_up)?;
-    cycles(&mut board, b"01100");
-    bytes(&mut board, b"0426");
-    assert_eq!(rt; state_of(&rt, &board), State::IrExit1);
-    cycles(&mut board, b"1");
-    cycles(&mut board, b"100");
-    bytes(&mut board, b"37");
-    cycles(&mut board, b"0");
-    let in_pause = b"\x00\x00U1DRPAUSE\x00\x00\x02\x00\x00\x02\x01\x02\x00\x02\x00\x03\x03EXTEST";
-    assert_shown(&rt, alloc, &board, in_pause)?;
-    cycles(&mut board, b"11");
-    let updated = b"\x00\x00U1DRUPDATE\x00\x00\x02\x00\x00\x02\x01\x02\x01\x02\x00\x03\x03EXTEST";
-    assert_shown(&rt, alloc, &board, updated)?;
+    let mut board = Board::bare(rt.alloc(), 1)?;
+    assert_registers(&rt, rt.alloc(), &mut board)
+}
+
+/// Asserts the registers of one device as it powers up, in the pause of a scan, and updated.
+fn assert_registers(rt: &impl Abort, alloc: Global, board: &mut Board) -> Result<(), Fail> {
+    assert_shown(rt, alloc, board, POWERED_UP)?;
+    cycles(board, b"01100");
+    bytes(board, b"0426");
+    assert_eq!(rt; state_of(rt, board), State::IrExit1);
+    cycles(board, b"1");
+    cycles(board, b"100");
+    bytes(board, b"37");
+    cycles(board, b"0");
+    assert_shown(rt, alloc, board, IN_PAUSE)?;
+    cycles(board, b"11");
+    assert_shown(rt, alloc, board, UPDATED)?;
     Ok(())
 }
 

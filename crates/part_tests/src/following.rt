@@ -46,14 +46,18 @@ fn answers(alloc: Global, board: &mut Board, bytes: &[u8]) -> Result<Vec<u8>, Al
 
 #[test]
 fn levels_are_handed_on(rt: HostRuntime) -> Result<(), Fail> {
-    let alloc = rt.alloc();
-    let mut board = board_of(alloc, HANDED_ON)?;
+    let mut board = board_of(rt.alloc(), HANDED_ON)?;
+    assert_handed_on(&rt, rt.alloc(), &mut board)
+}
+
+/// Asserts the levels of that board as it powers up, what it answers to the play, and the levels then.
+fn assert_handed_on(rt: &impl Abort, alloc: Global, board: &mut Board) -> Result<(), Fail> {
     let fresh = b"U1 RESET 10 IDCODE\nU2 RESET 10 IDCODE\nM Zero\nN One\nV One\n";
-    assert_eq!(&rt; reported(alloc, &board).as_slice(), fresh.as_slice());
-    let heard = answers(alloc, &mut board, PLAY)?;
-    assert_eq!(&rt; heard.as_slice(), b"1100".as_slice());
+    assert_eq!(rt; reported(alloc, board).as_slice(), fresh.as_slice());
+    let heard = answers(alloc, board, PLAY)?;
+    assert_eq!(rt; heard.as_slice(), b"1100".as_slice());
     let played = b"U1 IDLE 00 EXTEST\nU2 IDLE 11 BYPASS\nM Zero\nN Zero\nV Zero\n";
-    assert_eq!(&rt; reported(alloc, &board).as_slice(), played.as_slice());
+    assert_eq!(rt; reported(alloc, board).as_slice(), played.as_slice());
     Ok(())
 }
 

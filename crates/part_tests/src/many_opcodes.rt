@@ -156,6 +156,9 @@ fn long_row(alloc: Global, name: &str, one: usize, other: usize) -> Result<Opcod
     row(alloc, name, patterns)
 }
 
+/// The names of such rows, and the bits that are 1.
+const LONG_ROWS: &[(&str, usize, usize)] = &[("CLAMP", 0, 64), ("HIGHZ", 0, 129), ("EXTEST", 0, 0)];
+
 const LONG_CODES: &[(&[u8], Mode)] = &[
     (b"10000000000000001", Mode::Clamp),
     (b"200000000000000000000000000000001", Mode::HighZ),
@@ -168,9 +171,9 @@ const LONG_CODES: &[(&[u8], Mode)] = &[
 fn codes_of_more_than_one_word(rt: HostRuntime) -> Result<(), Fail> {
     let alloc = rt.alloc();
     let mut rows = Vec::new(alloc);
-    rows.push(long_row(alloc, "CLAMP", 0, 64)?)?;
-    rows.push(long_row(alloc, "HIGHZ", 0, 129)?)?;
-    rows.push(long_row(alloc, "EXTEST", 0, 0)?)?;
+    for (name, one, other) in LONG_ROWS {
+        rows.push(long_row(alloc, name, *one, *other)?)?;
+    }
     let shared = shared(alloc, rows, 130)?;
     assert_modes(&rt, alloc, &shared, LONG_CODES)
 }
@@ -184,29 +187,38 @@ fn code(alloc: Global, number: u32) -> Result<Bits, AllocError> {
     Ok(bits)
 }
 
+/// That row.
+fn row_of_many(alloc: Global, number: u32) -> Result<Opcode, AllocError> {
+    let bits = code(alloc, number)?;
+    let mut digits = Vec::new(alloc);
+    for i in 0..bits.len() {
+        digits.push(Some(bits.get(i)))?;
+    }
+    let mut patterns = Vec::new(alloc);
+    patterns.push(Pattern::new(digits))?;
+    row(alloc, NAMES[number as usize % 4], patterns)
+}
+
 #[test]
 fn as_many_opcodes_as_a_text_can_give(rt: HostRuntime) -> Result<(), Fail> {
-    let alloc = rt.alloc();
-    let mut rows = Vec::new(alloc);
+    let mut rows = Vec::new(rt.alloc());
     for number in 0..MANY {
-        let bits = code(alloc, number)?;
-        let mut digits = Vec::new(alloc);
-        for i in 0..bits.len() {
-            digits.push(Some(bits.get(i)))?;
-        }
-        let mut patterns = Vec::new(alloc);
-        patterns.push(Pattern::new(digits))?;
-        rows.push(row(alloc, NAMES[number as usize % 4], patterns)?)?;
+        rows.push(row_of_many(rt.alloc(), number)?)?;
     }
-    let shared = shared(alloc, rows, LENGTH)?;
+    let shared = shared(rt.alloc(), rows, LENGTH)?;
+    assert_each(&rt, rt.alloc(), &shared)
+}
+
+/// Asserts how the instructions of some of the codes drive the pins, and that of a code that no row has.
+fn assert_each(rt: &impl Abort, alloc: Global, shared: &SharedDevice) -> Result<(), Fail> {
     let modes = [Mode::Extest, Mode::Clamp, Mode::HighZ, Mode::Core];
     for number in 0..MANY {
         if number % 1_009 == 0 {
             let latch = code(alloc, number)?;
-            assert_eq!(rt; mode(&shared, &latch)?, modes[number as usize % 4]);
+            assert_eq!(rt; mode(shared, &latch)?, modes[number as usize % 4]);
         }
     }
     let latch = code(alloc, MANY)?;
-    assert_eq!(rt; mode(&shared, &latch)?, Mode::Core);
+    assert_eq!(rt; mode(shared, &latch)?, Mode::Core);
     Ok(())
 }

@@ -55,34 +55,38 @@ fn in_work(k: usize) -> usize {
 fn a_loss_at_each_byte_names_the_command_and_leaves_a_board_that_plays_on(
     rt: HostRuntime,
 ) -> Result<(), Fail> {
-    let alloc = rt.alloc();
     for k in 0..35 {
-        for piece in [1, 3, 64] {
-            let (ending, bytes) = played(alloc, k, piece, ANSWERS)?;
-            let wanted = if k < SENT.len() {
-                Ending::Lost {
-                    command: in_work(k),
-                }
-            } else {
-                Ending::Pass
-            };
-            assert_eq!(rt; ending, wanted);
-            assert_eq!(rt; bytes.as_slice(), &SENT[..k.min(SENT.len())]);
-            let mut board = Board::bare(alloc, 1)?;
-            let (served_by, _) = served(alloc, &mut board, &bytes, 1000);
-            let wanted = if k < SENT.len() {
-                Served::Closed
-            } else {
-                Served::Quit
-            };
-            assert_eq!(rt; served_by, wanted);
-            let (served_by, answers) = served(alloc, &mut board, SENT, 1000);
-            assert_eq!(rt; served_by, Served::Quit);
-            assert_eq!(rt; answers.as_slice(), ANSWERS);
-            let (ending, _) = played(alloc, 1000, piece, &answers)?;
-            assert_eq!(rt; ending, Ending::Pass);
+        for piece in &[1, 3, 64][..] {
+            assert_loss(&rt, rt.alloc(), k, *piece)?;
         }
     }
+    Ok(())
+}
+
+/// Asserts how a play ends whose writer is lost after `k` bytes, and what the board that took these does then.
+fn assert_loss(rt: &impl Abort, alloc: Global, k: usize, piece: usize) -> Result<(), Fail> {
+    let (ending, bytes) = played(alloc, k, piece, ANSWERS)?;
+    let (wanted, left) = if k < SENT.len() {
+        let command = in_work(k);
+        (Ending::Lost { command }, Served::Closed)
+    } else {
+        (Ending::Pass, Served::Quit)
+    };
+    assert_eq!(rt; ending, wanted);
+    assert_eq!(rt; bytes.as_slice(), &SENT[..k.min(SENT.len())]);
+    let mut board = Board::bare(alloc, 1)?;
+    let (served_by, _) = served(alloc, &mut board, &bytes, 1000);
+    assert_eq!(rt; served_by, left);
+    let (served_by, answers) = served(alloc, &mut board, SENT, 1000);
+    assert_eq!(rt; served_by, Served::Quit);
+    assert_eq!(rt; answers.as_slice(), ANSWERS);
+    assert_passes(rt, alloc, piece, &answers)
+}
+
+/// Asserts that the scan passes by these answers.
+fn assert_passes(rt: &impl Abort, alloc: Global, piece: usize, answers: &[u8]) -> Result<(), Fail> {
+    let (ending, _) = played(alloc, 1000, piece, answers)?;
+    assert_eq!(rt; ending, Ending::Pass);
     Ok(())
 }
 
@@ -278,7 +282,7 @@ fn scan_of_100(alloc: Global) -> Result<Vec<u8>, AllocError> {
 }
 
 /// How the lists of each device are packed, their bits and the place of bit 0 in their words.
-fn layouts(rt: &impl Abort, alloc: Global, board: &Board) -> Result<String, AllocError> {
+fn layouts(rt: &impl Abort, alloc: Global, board: &Board) -> Result<String, Fail> {
     let snapshot = board.snapshot();
     let mut shown = String::new(alloc);
     for i in 0..snapshot.devices() {
@@ -295,21 +299,36 @@ fn layouts(rt: &impl Abort, alloc: Global, board: &Board) -> Result<String, Allo
 
 #[test]
 fn a_scan_that_is_served_leaves_each_list_as_its_bytes_do(rt: HostRuntime) -> Result<(), Fail> {
-    let alloc = rt.alloc();
-    let bytes = scan_of_100(alloc)?;
-    let mut model = coded_board(alloc)?;
-    for byte in &bytes {
-        let _ = model.byte(*byte);
-    }
-    let wanted = layouts(&rt, alloc, &model)?;
-    for piece in [1024, 1, 3, 4, 63, 64, 65] {
-        let mut board = coded_board(alloc)?;
-        let mut writer = Counted::new(Vec::new(alloc));
-        let mut reader = Counted::new(Stop::new(bytes.as_slice(), usize::MAX, piece));
-        let ended = serve_over(&mut reader, &mut writer, &mut board, 1000);
-        assert_eq!(rt; ended, Served::Closed);
-        assert_eq!(rt; writer.into_inner().len(), 100);
-        assert_eq!(rt; layouts(&rt, alloc, &board)?.as_str(), wanted.as_str());
+    let bytes = scan_of_100(rt.alloc())?;
+    let wanted = layouts_by_bytes(&rt, rt.alloc(), &bytes)?;
+    for piece in &[1024, 1, 3, 4, 63, 64, 65][..] {
+        let found = layouts_served(&rt, rt.alloc(), &bytes, *piece)?;
+        assert_eq!(&rt; found.as_str(), wanted.as_str());
     }
     Ok(())
+}
+
+/// The layouts that bytes leave that a board takes one by one.
+fn layouts_by_bytes(rt: &impl Abort, alloc: Global, bytes: &[u8]) -> Result<String, Fail> {
+    let mut board = coded_board(alloc)?;
+    for byte in bytes {
+        let _ = board.byte(*byte);
+    }
+    layouts(rt, alloc, &board)
+}
+
+/// The layouts that they leave where they are served in pieces.
+fn layouts_served(
+    rt: &impl Abort,
+    alloc: Global,
+    bytes: &[u8],
+    piece: usize,
+) -> Result<String, Fail> {
+    let mut board = coded_board(alloc)?;
+    let mut writer = Counted::new(Vec::new(alloc));
+    let mut reader = Counted::new(Stop::new(bytes, usize::MAX, piece.max(1)));
+    let ended = serve_over(&mut reader, &mut writer, &mut board, 1000);
+    assert_eq!(rt; ended, Served::Closed);
+    assert_eq!(rt; writer.into_inner().len(), 100);
+    layouts(rt, alloc, &board)
 }
