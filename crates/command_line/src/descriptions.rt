@@ -9,7 +9,7 @@ use std::rt::Files;
 /// The texts of descriptions by the names that they were read by. A file that goes by several names, as `k.bsdl` and
 /// `./k.bsdl`, is read once and kept once.
 #[derive(Drop)]
-pub struct Descriptions {
+pub(crate) struct Descriptions {
     texts: Vec<Vec<u8>>,
     /// The place of the text of each name.
     places: Vec<usize>,
@@ -19,7 +19,7 @@ pub struct Descriptions {
 
 impl Descriptions {
     /// None yet.
-    pub fn new(alloc: Global) -> Descriptions {
+    pub(crate) fn new(alloc: Global) -> Descriptions {
         Descriptions {
             texts: Vec::new(alloc),
             places: Vec::new(alloc),
@@ -28,7 +28,7 @@ impl Descriptions {
     }
 
     /// Reads the description of this name, or finds its file among those that were read.
-    pub fn read<R: Files + Input + AllocGlobal>(
+    pub(crate) fn read<R: Files + Input + AllocGlobal>(
         &mut self,
         rt: &R,
         alloc: Global,
@@ -60,7 +60,7 @@ impl Descriptions {
     }
 
     /// The text of the name that was read as the `k`th, from 0; nothing where there are fewer.
-    pub fn text(&self, k: usize) -> &[u8] {
+    pub(crate) fn text(&self, k: usize) -> &[u8] {
         match self.places.get(k) {
             Some(place) => self.texts.get(*place).map_or(&[], |text| text.as_slice()),
             None => &[],

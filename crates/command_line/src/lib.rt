@@ -1,20 +1,25 @@
-//! What the words of a command line ask for, and the words and texts of the program as they come.
+//! What the words of a command line ask for, and what a command works on as it comes: the words, the texts, the board,
+//! the connections.
 #![tactic(auto)]
 
+mod boards;
 mod descriptions;
 mod help;
+pub mod links;
 mod nodes;
 mod outputs;
 mod request;
 mod streams;
 mod texts;
+mod unmade;
 mod usage;
 mod words;
 
-pub use descriptions::Descriptions;
+pub use boards::{Planned, make_board, plan_board};
 pub use outputs::{head_of, is_in_use};
 pub use request::{Request, Server, Serving, Task, Waves, parse};
 pub use streams::StandIns;
-pub use texts::{InputFault, read_board_file, read_text};
+pub use texts::{InputFault, read_text};
+pub use unmade::{RefusedFile, RefusedKey, Unmade};
 pub use usage::usage_is_read;
 pub use words::command_words;

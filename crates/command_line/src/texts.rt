@@ -37,7 +37,7 @@ impl From<AllocError> for InputFault {
 }
 
 /// Reads a board file; one of more than 16 MiB counts as unreadable.
-pub fn read_board_file<R: Files + Input + AllocGlobal>(
+pub(crate) fn read_board_file<R: Files + Input + AllocGlobal>(
     rt: &R,
     alloc: Global,
     name: &str,

@@ -1,9 +1,9 @@
 //! Which faults give just what a log says of a play.
 
-use crate::described::Planned;
-use board_description::Untold;
+use crate::statuses::{or_lost, status_of};
 use byte_streams::{Counted, Plain};
-use play_diagnosis::{read_log, refuse_log};
+use command_line::Planned;
+use play_diagnosis::{Said, read_log, refuse_log, write_diagnosis};
 use play_explained::plain::Program;
 use std::alloc::Global;
 use std::io;
@@ -17,15 +17,25 @@ pub(crate) fn diagnose_log(
     program: &Program,
     log: &[u8],
     explain: bool,
-) -> Result<u8, Untold> {
+) -> u8 {
     match read_log(program, log) {
-        Ok(said) => {
-            let mut out = Counted::new(Plain(io::writer(rt)));
-            planned.diagnose(alloc, program, &said, &mut out)
-        }
+        Ok(said) => diagnose_said(rt, alloc, planned, program, &said),
         Err(fault) => {
             let mut err = Counted::new(Plain(rt.stderr()));
-            Ok(refuse_log(fault, explain, &mut err)?)
+            or_lost(refuse_log(fault, explain, &mut err))
         }
     }
+}
+
+/// Tells which faults of the board of a plan give just what was said.
+fn diagnose_said(
+    rt: &HostRuntime,
+    alloc: Global,
+    planned: &Planned,
+    program: &Program,
+    said: &Said,
+) -> u8 {
+    let mut out = Counted::new(Plain(io::writer(rt)));
+    let told = write_diagnosis(alloc, planned.plan(), program, said, &mut out);
+    status_of(rt, told)
 }

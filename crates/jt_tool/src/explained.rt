@@ -1,20 +1,21 @@
-//! Where a refusal lies, for a user who asks.
+//! Why a bit fails and where a refusal lies, for a user who asks.
 ghost use Rattle.std.specs.Prelude.{◌≡◌};
 
-use crate::described::{Planned, RefusedFile, RefusedKey, Unmade};
 use crate::statuses::or_lost;
 use board_description::Untold;
 use byte_streams::{Broken, Counted, Plain, Sink};
+use command_line::{Planned, RefusedFile, RefusedKey, Unmade};
 use jt_board::bad_toml_place;
 use output_words::Status;
 use play_explained::plain::{
-    Board, BoardFault, Kind, Program, SvfFault, accept, check_program, refuse_board, refuse_file,
-    refuse_memory, refuse_text, run_program,
+    Board, BoardFault, Kind, Program, SvfFault, accept, refuse_board, refuse_file, refuse_memory,
+    refuse_text, run_program,
 };
 use play_explained::refusals::{
     place_in_description, refused_board, refused_description, refused_key, refused_text,
     refused_toml,
 };
+use play_explained::run_play_explained;
 use std::alloc::Global;
 
 /// The program of a text. Else tells why it is refused, and where it is asked for where that lies, and answers the exit
@@ -49,20 +50,18 @@ pub(crate) fn play_accepted<W: Sink>(
     requires { out.old.failures ≡ 0 }
 {
     match planned {
-        Some(planned) => planned.play_explained(alloc, kind, program, text, bytes, board, out),
+        Some(planned) => run_play_explained(
+            alloc,
+            kind,
+            program,
+            text,
+            bytes,
+            board,
+            planned.plan(),
+            out,
+        ),
         None => Ok(run_program(kind, program, board, bytes, out)?),
     }
-}
-
-/// Tells of an accepted program, and plays nothing. Answers the exit status.
-pub(crate) fn check_accepted<W: Sink>(
-    program: &Program,
-    board: &Board,
-    out: &mut Counted<W>,
-) -> Result<u8, Untold>
-    requires { out.old.failures ≡ 0 }
-{
-    Ok(check_program(program, board, out)?)
 }
 
 /// Tells why a text is refused, and where it is asked for where that lies. Answers the exit status.

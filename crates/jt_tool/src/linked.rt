@@ -1,47 +1,20 @@
 //! Plays over connections: on a server, and of the program with itself.
 ghost use Rattle.std.specs.Prelude.{◌≡◌};
 
-use crate::described::Planned;
-use crate::explained::accept_text;
-use crate::links::{Link, connect, pair};
 use crate::statuses::or_lost;
 use board_description::Untold;
 use byte_streams::{Broken, Counted, End, Plain, Sink};
-use command_line::Server;
+use command_line::links::{Link, connect, pair};
+use command_line::{Planned, Server};
 use play_explained::plain::{
     Board, Ending, Kind, Program, run_loop, run_over, tell_unplayed, tell_verdict,
 };
-use play_explained::run_over_explained;
+use play_explained::{run_loop_explained, run_over_explained};
 use std::alloc::Global;
 use std::io;
 
 /// How a play ends whose server was not reached.
 const UNREACHED: Ending = Ending::Lost { command: 0 };
-
-/// A text that was accepted, its program, and whether the play is explained.
-#[derive(Drop)]
-pub(crate) struct AcceptedText {
-    text: Vec<u8>,
-    pub(crate) program: Program,
-    explain: bool,
-}
-
-impl AcceptedText {
-    /// Accepts a text. Else tells why not, and answers the exit status.
-    pub(crate) fn accept(
-        rt: &HostRuntime,
-        alloc: Global,
-        text: Vec<u8>,
-        explain: bool,
-    ) -> Result<AcceptedText, u8> {
-        let program = accept_text(rt, alloc, &text, explain)?;
-        Ok(AcceptedText {
-            text,
-            program,
-            explain,
-        })
-    }
-}
 
 /// Plays a text on a server. One that cannot be reached loses the play before its first command. Answers the exit
 /// status.
@@ -49,12 +22,14 @@ pub(crate) fn play_on_server(
     rt: &HostRuntime,
     alloc: Global,
     kind: Kind,
-    accepted: AcceptedText,
+    program: Program,
+    text: &[u8],
+    explain: bool,
     server: Server<'_>,
 ) -> u8 {
     let mut out = Counted::new(Plain(io::writer(rt)));
     let status = match connect(rt, server) {
-        Ok(link) => play_over_link(alloc, kind, accepted, link, &mut out),
+        Ok(link) => play_over_link(alloc, kind, program, text, explain, link, &mut out),
         Err(_) => tell_verdict(UNREACHED, &mut out),
     };
     or_lost(status)
@@ -64,21 +39,18 @@ pub(crate) fn play_on_server(
 fn play_over_link<O: Sink>(
     alloc: Global,
     kind: Kind,
-    accepted: AcceptedText,
+    program: Program,
+    text: &[u8],
+    explain: bool,
     link: Link,
     out: &mut Counted<O>,
 ) -> Result<u8, Broken>
     requires { out.old.failures ≡ 0 }
 {
-    let AcceptedText {
-        text,
-        program,
-        explain,
-    } = accepted;
     let mut reader = Counted::new(link.reader);
     let mut writer = Counted::new(link.writer);
     if explain {
-        run_over_explained(alloc, kind, program, &mut reader, &mut writer, &text, out)
+        run_over_explained(alloc, kind, program, &mut reader, &mut writer, text, out)
     } else {
         run_over(alloc, kind, program, &mut reader, &mut writer, out)
     }
@@ -90,26 +62,24 @@ pub(crate) fn loop_over_socket(
     rt: &HostRuntime,
     alloc: Global,
     kind: Kind,
-    accepted: AcceptedText,
+    program: Program,
+    text: &[u8],
     board: &mut Board,
     planned: Option<&Planned>,
 ) -> Result<u8, Untold> {
     let mut out = Counted::new(Plain(io::writer(rt)));
     match pair(rt) {
-        Ok((player, server)) => {
-            let mut player_end = Counted::new(player);
-            let mut board_end = Counted::new(server);
-            loop_over_ends(
-                alloc,
-                kind,
-                accepted,
-                &mut player_end,
-                &mut board_end,
-                board,
-                planned,
-                &mut out,
-            )
-        }
+        Ok((player, server)) => loop_over_ends(
+            alloc,
+            kind,
+            program,
+            &mut Counted::new(player),
+            &mut Counted::new(server),
+            board,
+            text,
+            planned,
+            &mut out,
+        ),
         Err(_) => Ok(tell_unplayed(UNREACHED, board, &mut out)?),
     }
 }
@@ -119,10 +89,11 @@ pub(crate) fn loop_over_socket(
 fn loop_over_ends<P: End, B: End, O: Sink>(
     alloc: Global,
     kind: Kind,
-    accepted: AcceptedText,
+    program: Program,
     player_end: &mut Counted<P>,
     board_end: &mut Counted<B>,
     board: &mut Board,
+    text: &[u8],
     planned: Option<&Planned>,
     out: &mut Counted<O>,
 ) -> Result<u8, Untold>
@@ -130,10 +101,17 @@ fn loop_over_ends<P: End, B: End, O: Sink>(
     requires board_end { board_end.old.failures ≡ 0 }
     requires out { out.old.failures ≡ 0 }
 {
-    let AcceptedText { text, program, .. } = accepted;
     match planned {
-        Some(planned) => planned.loop_explained(
-            alloc, kind, program, player_end, board_end, board, &text, out,
+        Some(planned) => run_loop_explained(
+            alloc,
+            kind,
+            program,
+            player_end,
+            board_end,
+            board,
+            text,
+            planned.plan(),
+            out,
         ),
         None => Ok(run_loop(alloc, kind, program, player_end, board_end, board, out)?),
     }

@@ -1,39 +1,36 @@
 //! The command line of the player and its simulated board.
 #![tactic(auto)]
 
-mod described;
 mod diagnosed;
+mod drawn;
 mod explained;
+mod inputs;
 mod linked;
-mod links;
+mod served;
 mod statuses;
 mod waves;
 
-use crate::described::{Planned, Unmade, plan_board};
 use crate::diagnosed::diagnose_log;
-use crate::explained::{accept_text, check_accepted, play_accepted, tell_unmade};
-use crate::linked::{AcceptedText, loop_over_socket, play_on_server};
-use crate::links::{accept, listen};
-use crate::statuses::{or_lost, tell_line, tell_memory};
-use crate::waves::{draw_waves, may_be_made};
-use board_description::Untold;
-use byte_streams::{Broken, Counted, Plain};
+use crate::drawn::draw_play;
+use crate::explained::{play_accepted, tell_unmade};
+use crate::inputs::{read_accepted, read_input, read_program};
+use crate::linked::{loop_over_socket, play_on_server};
+use crate::served::serve;
+use crate::statuses::{or_lost, status_of, tell_line, tell_memory};
+use board_description::write_description;
+use byte_streams::{Counted, Plain};
 use clap::error::ErrorKind as WordsFault;
 use command_line::{
-    InputFault, Request, Serving, StandIns, Task, Waves, command_words, parse, read_text,
+    Planned, Request, Server, StandIns, Task, Unmade, Waves, command_words, make_board, parse,
+    plan_board,
 };
 use output_words::Status;
-use play_explained::plain::{
-    Board, Kind, Program, Served, refuse_file, refuse_memory, run_serve, tell_listening,
-    tell_served, write_report,
-};
-use play_waves::{Undrawn, status_behind};
+use play_coverage::write_cover;
+use play_explained::plain::{Board, Kind, Program, check_program};
 use std::alloc::Global;
-use std::fs::File;
+use std::io;
 use std::io::ErrorKind;
-use std::net::TcpListener;
 use std::process::ExitCode;
-use std::{fs, io};
 
 /// What is told of words that are no text.
 const NOT_UTF8: &str = "a word of the command line is not UTF-8";
@@ -84,116 +81,25 @@ fn refuse_words<R: Print + Eprint>(rt: &R, fault: &clap::Error) -> u8 {
     }
 }
 
-/// Does what is asked for. A board is made before a text is read.
+/// Does what is asked for. A board is planned before a text is read.
 fn run_request(rt: &HostRuntime, alloc: Global, request: &Request<'_>) -> u8 {
-    let explain = explains(request.task);
-    if let Task::Connect { server, all, .. } = request.task {
-        return match read_program(rt, alloc, request.svf, explain) {
-            Ok(accepted) => play_on_server(rt, alloc, kind_of(all), accepted, server),
-            Err(status) => status,
-        };
-    }
-    match plan_board(rt, alloc, request.board) {
-        Ok(planned) => run_planned(rt, alloc, request, planned),
-        Err(fault) => refuse_board(rt, &fault, explain),
-    }
-}
-
-/// Describes the board of a plan, tells which of its faults a text would miss or give what a log says, or powers it up
-/// and does with it what is asked for.
-fn run_planned(rt: &HostRuntime, alloc: Global, request: &Request<'_>, planned: Planned) -> u8 {
     match request.task {
-        Task::Describe { .. } => describe_board(rt, alloc, &planned),
-        Task::Cover { listed, explain } => {
-            cover_board(rt, alloc, request.svf, &planned, listed, explain)
-        }
-        Task::Diagnose { log, explain } => {
-            diagnose_board(rt, alloc, request.svf, &planned, log, explain)
-        }
-        task => match planned.board(alloc) {
-            Ok(board) => run_board(rt, alloc, request, planned, board),
-            Err(fault) => refuse_board(rt, &fault, explains(task)),
-        },
+        Task::Connect {
+            server,
+            all,
+            explain,
+        } => connect_text(rt, alloc, request.svf, kind_of(all), explain, server),
+        task if keeps_plan(task) => run_planned(rt, alloc, request),
+        _ => run_unplanned(rt, alloc, request),
     }
 }
 
-/// Describes the board of a plan. Answers the exit status.
-fn describe_board(rt: &HostRuntime, alloc: Global, planned: &Planned) -> u8 {
-    match planned.describe(alloc, &mut Counted::new(Plain(io::writer(rt)))) {
-        Ok(()) => Status::Pass.number(),
-        Err(fault) => refuse_untold(rt, fault),
-    }
-}
-
-/// Tells which faults of the board of a plan a text would miss. Answers the exit status.
-fn cover_board(
-    rt: &HostRuntime,
-    alloc: Global,
-    name: Option<&str>,
-    planned: &Planned,
-    listed: bool,
-    explain: bool,
-) -> u8 {
-    match read_program(rt, alloc, name, explain) {
-        Ok(accepted) => cover_program(rt, alloc, planned, &accepted.program, listed),
-        Err(status) => status,
-    }
-}
-
-/// Tells which faults of the board of a plan an accepted program would miss. Answers the exit status.
-fn cover_program(
-    rt: &HostRuntime,
-    alloc: Global,
-    planned: &Planned,
-    program: &Program,
-    listed: bool,
-) -> u8 {
-    let mut out = Counted::new(Plain(io::writer(rt)));
-    match planned.cover(alloc, program, listed, &mut out) {
-        Ok(status) => status,
-        Err(fault) => refuse_untold(rt, fault),
-    }
-}
-
-/// Tells which faults of the board of a plan give just what a log says of a play of a text. Answers the exit status.
-fn diagnose_board(
-    rt: &HostRuntime,
-    alloc: Global,
-    name: Option<&str>,
-    planned: &Planned,
-    log: Option<&str>,
-    explain: bool,
-) -> u8 {
-    match read_program(rt, alloc, name, explain) {
-        Ok(accepted) => diagnose_program(rt, alloc, planned, &accepted.program, log, explain),
-        Err(status) => status,
-    }
-}
-
-/// The same of a play of an accepted program. The log comes from standard input where no file of it is named.
-fn diagnose_program(
-    rt: &HostRuntime,
-    alloc: Global,
-    planned: &Planned,
-    program: &Program,
-    log: Option<&str>,
-    explain: bool,
-) -> u8 {
-    let told = match read_text(rt, alloc, log) {
-        Ok(text) => diagnose_log(rt, alloc, planned, program, &text, explain),
-        Err(fault) => return refuse_input(rt, log.unwrap_or("-"), fault),
-    };
-    match told {
-        Ok(status) => status,
-        Err(fault) => refuse_untold(rt, fault),
-    }
-}
-
-/// What is to be told of a board was lost, or memory ran out for it. Answers the exit status.
-fn refuse_untold(rt: &HostRuntime, fault: Untold) -> u8 {
-    match fault {
-        Untold::Broken => Status::Lost.number(),
-        Untold::NoMemory => tell_memory(rt),
+/// Whether a plan is kept beside its board: where waves are drawn, or reasons found, on the same board, and where the
+/// plan is all that is wanted.
+fn keeps_plan(task: Task<'_>) -> bool {
+    match task {
+        Task::Describe { .. } | Task::Cover { .. } | Task::Diagnose { .. } => true,
+        _ => explains(task) || waves_of(task).is_some(),
     }
 }
 
@@ -219,28 +125,128 @@ fn waves_of<'a>(task: Task<'a>) -> Option<Waves<'a>> {
     }
 }
 
-/// Does with a board what is asked for. Its plan is kept only where waves are drawn, or reasons found, on the same
-/// board.
-fn run_board(
+/// The kind of player that is asked for: one that tells all failures plays on.
+pub(crate) fn kind_of(all: bool) -> Kind {
+    if all { Kind::PlaysOn } else { Kind::Stops }
+}
+
+/// Does with a board what is asked for, without its plan.
+fn run_unplanned(rt: &HostRuntime, alloc: Global, request: &Request<'_>) -> u8 {
+    match make_board(rt, alloc, request.board) {
+        Ok(mut board) => run_on_board(rt, alloc, request, &mut board, None),
+        Err(fault) => refuse_board(rt, &fault, false),
+    }
+}
+
+/// Plans a board, and does with the plan what is asked for.
+fn run_planned(rt: &HostRuntime, alloc: Global, request: &Request<'_>) -> u8 {
+    match plan_board(rt, alloc, request.board) {
+        Ok(planned) => run_on_plan(rt, alloc, request, &planned),
+        Err(fault) => refuse_board(rt, &fault, explains(request.task)),
+    }
+}
+
+/// Tells why no board was made, and where it is asked for where that lies. Answers the exit status.
+fn refuse_board(rt: &HostRuntime, fault: &Unmade, explain: bool) -> u8 {
+    let mut err = Counted::new(Plain(rt.stderr()));
+    or_lost(tell_unmade(rt.alloc(), fault, explain, &mut err))
+}
+
+/// Describes the board of a plan, tells which of its faults a text would miss or give what a log says, or powers it up
+/// and does with it what is asked for.
+fn run_on_plan(rt: &HostRuntime, alloc: Global, request: &Request<'_>, planned: &Planned) -> u8 {
+    match request.task {
+        Task::Describe { .. } => describe_board(rt, alloc, planned),
+        Task::Cover { listed, explain } => {
+            cover_board(rt, alloc, request.svf, planned, listed, explain)
+        }
+        Task::Diagnose { log, explain } => {
+            diagnose_board(rt, alloc, request.svf, planned, log, explain)
+        }
+        task => match waves_of(task) {
+            Some(waves) => draw_play(rt, alloc, request, explains(task), waves, planned),
+            None => run_powered(rt, alloc, request, planned),
+        },
+    }
+}
+
+/// Describes the board of a plan. Answers the exit status.
+fn describe_board(rt: &HostRuntime, alloc: Global, planned: &Planned) -> u8 {
+    let mut out = Counted::new(Plain(io::writer(rt)));
+    match write_description(alloc, planned.plan(), &mut out) {
+        Ok(()) => Status::Pass.number(),
+        Err(fault) => status_of(rt, Err(fault)),
+    }
+}
+
+/// Tells which faults of the board of a plan a text would miss. Answers the exit status.
+fn cover_board(
     rt: &HostRuntime,
     alloc: Global,
-    request: &Request<'_>,
-    planned: Planned,
-    board: Board,
+    name: Option<&str>,
+    planned: &Planned,
+    listed: bool,
+    explain: bool,
 ) -> u8 {
-    if let Some(waves) = waves_of(request.task) {
-        return draw_play(rt, alloc, request, waves, &planned, board);
+    match read_program(rt, alloc, name, explain) {
+        Ok(program) => cover_program(rt, alloc, planned, &program, listed),
+        Err(status) => status,
     }
-    let mut board = board;
-    if explains(request.task) {
-        return run_task(rt, alloc, request, &mut board, Some(&planned));
+}
+
+/// Tells which faults of the board of a plan an accepted program would miss. Answers the exit status.
+fn cover_program(
+    rt: &HostRuntime,
+    alloc: Global,
+    planned: &Planned,
+    program: &Program,
+    listed: bool,
+) -> u8 {
+    let mut out = Counted::new(Plain(io::writer(rt)));
+    let told = write_cover(alloc, planned.plan(), program, listed, &mut out);
+    status_of(rt, told)
+}
+
+/// Tells which faults of the board of a plan give just what a log says of a play of a text. Answers the exit status.
+fn diagnose_board(
+    rt: &HostRuntime,
+    alloc: Global,
+    name: Option<&str>,
+    planned: &Planned,
+    log: Option<&str>,
+    explain: bool,
+) -> u8 {
+    match read_program(rt, alloc, name, explain) {
+        Ok(program) => diagnose_program(rt, alloc, planned, &program, log, explain),
+        Err(status) => status,
     }
-    drop(planned);
-    run_task(rt, alloc, request, &mut board, None)
+}
+
+/// The same of a play of an accepted program. The log comes from standard input where no file of it is named.
+fn diagnose_program(
+    rt: &HostRuntime,
+    alloc: Global,
+    planned: &Planned,
+    program: &Program,
+    log: Option<&str>,
+    explain: bool,
+) -> u8 {
+    match read_input(rt, alloc, log) {
+        Ok(text) => diagnose_log(rt, alloc, planned, program, &text, explain),
+        Err(status) => status,
+    }
+}
+
+/// Powers the board of a plan up, and does with it what is asked for.
+fn run_powered(rt: &HostRuntime, alloc: Global, request: &Request<'_>, planned: &Planned) -> u8 {
+    match planned.board(alloc) {
+        Ok(mut board) => run_on_board(rt, alloc, request, &mut board, Some(planned)),
+        Err(_) => tell_memory(rt),
+    }
 }
 
 /// Does with a board what is asked for; where a plan is given, it is told why bits fail, by the board of that plan.
-fn run_task(
+fn run_on_board(
     rt: &HostRuntime,
     alloc: Global,
     request: &Request<'_>,
@@ -249,10 +255,17 @@ fn run_task(
 ) -> u8 {
     match request.task {
         Task::Serve { serving, .. } => or_lost(serve(rt, board, serving)),
-        Task::Loop { all, explain } => match read_program(rt, alloc, request.svf, explain) {
-            Ok(accepted) => loop_text(rt, alloc, kind_of(all), accepted, board, planned),
-            Err(status) => status,
-        },
+        Task::Loop { all, explain } => {
+            loop_text(
+                rt,
+                alloc,
+                request.svf,
+                kind_of(all),
+                explain,
+                board,
+                planned,
+            )
+        }
         task => run_text(rt, alloc, request.svf, task, board, planned),
     }
 }
@@ -261,14 +274,33 @@ fn run_task(
 fn loop_text(
     rt: &HostRuntime,
     alloc: Global,
+    name: Option<&str>,
     kind: Kind,
-    accepted: AcceptedText,
+    explain: bool,
     board: &mut Board,
     planned: Option<&Planned>,
 ) -> u8 {
-    match loop_over_socket(rt, alloc, kind, accepted, board, planned) {
-        Ok(status) => status,
-        Err(fault) => refuse_untold(rt, fault),
+    match read_accepted(rt, alloc, name, explain) {
+        Ok((text, program)) => {
+            let told = loop_over_socket(rt, alloc, kind, program, &text, board, planned);
+            status_of(rt, told)
+        }
+        Err(status) => status,
+    }
+}
+
+/// Plays a text on a server. Answers the exit status.
+fn connect_text(
+    rt: &HostRuntime,
+    alloc: Global,
+    name: Option<&str>,
+    kind: Kind,
+    explain: bool,
+    server: Server<'_>,
+) -> u8 {
+    match read_accepted(rt, alloc, name, explain) {
+        Ok((text, program)) => play_on_server(rt, alloc, kind, program, &text, explain, server),
+        Err(status) => status,
     }
 }
 
@@ -281,103 +313,14 @@ fn run_text(
     board: &mut Board,
     planned: Option<&Planned>,
 ) -> u8 {
-    match read_text(rt, alloc, name) {
-        Ok(text) => told(rt, alloc, &text, task, board, planned),
-        Err(fault) => refuse_input(rt, name.unwrap_or("-"), fault),
-    }
-}
-
-/// Plays a text on a board, and draws its waves. Their file is made before the play, and drawn behind it.
-fn draw_play(
-    rt: &HostRuntime,
-    alloc: Global,
-    request: &Request<'_>,
-    waves: Waves<'_>,
-    planned: &Planned,
-    board: Board,
-) -> u8 {
-    match text_and_waves(rt, alloc, request, waves.file, planned.descriptions()) {
-        Ok((text, file)) => draw_text(rt, alloc, &text, request.task, waves, planned, board, file),
-        Err(status) => status,
-    }
-}
-
-/// Accepts a text, plays its program on a board, and draws its waves into a file.
-fn draw_text(
-    rt: &HostRuntime,
-    alloc: Global,
-    text: &[u8],
-    task: Task<'_>,
-    waves: Waves<'_>,
-    planned: &Planned,
-    board: Board,
-    file: File,
-) -> u8 {
-    match accept_text(rt, alloc, text, explains(task)) {
-        Ok(program) => {
-            let status = told_on(rt, alloc, &program, text, task, planned, board);
-            draw_behind(rt, alloc, &program, task, waves, planned, file, status)
-        }
-        Err(status) => status,
-    }
-}
-
-/// Reads the text of a play, and makes the file of its waves, where nothing is lost by that. Else tells why not, and
-/// answers the exit status: nothing is written then.
-fn text_and_waves(
-    rt: &HostRuntime,
-    alloc: Global,
-    request: &Request<'_>,
-    waves: &str,
-    descriptions: &[String],
-) -> Result<(Vec<u8>, File), u8> {
-    match may_be_made(rt, alloc, waves, request, descriptions) {
-        Ok(true) => {}
-        Ok(false) => return Err(refuse_input(rt, waves, InputFault::Unreadable)),
-        Err(fault) => return Err(refuse_input(rt, waves, fault)),
-    }
-    let text = match read_text(rt, alloc, request.svf) {
-        Ok(text) => text,
-        Err(fault) => return Err(refuse_input(rt, request.svf.unwrap_or("-"), fault)),
-    };
-    match fs::create(rt, waves) {
-        Ok(file) => Ok((text, file)),
-        Err(fault) => Err(refuse_waves(rt, waves, InputFault::from(fault))),
-    }
-}
-
-/// Plays an accepted program of a text on the board of a plan. Answers the exit status.
-fn told_on(
-    rt: &HostRuntime,
-    alloc: Global,
-    program: &Program,
-    text: &[u8],
-    task: Task<'_>,
-    planned: &Planned,
-    board: Board,
-) -> u8 {
-    let mut board = board;
-    let planned = if explains(task) { Some(planned) } else { None };
-    told_of(rt, alloc, program, text, task, &mut board, planned)
-}
-
-/// Accepts a text, and plays it on a board, or checks it. Answers the exit status.
-fn told(
-    rt: &HostRuntime,
-    alloc: Global,
-    text: &[u8],
-    task: Task<'_>,
-    board: &mut Board,
-    planned: Option<&Planned>,
-) -> u8 {
-    match accept_text(rt, alloc, text, explains(task)) {
-        Ok(program) => told_of(rt, alloc, &program, text, task, board, planned),
+    match read_accepted(rt, alloc, name, explains(task)) {
+        Ok((text, program)) => told_of(rt, alloc, &program, &text, task, board, planned),
         Err(status) => status,
     }
 }
 
 /// Plays an accepted program of a text on a board, or tells that it is accepted. Answers the exit status.
-fn told_of(
+pub(crate) fn told_of(
     rt: &HostRuntime,
     alloc: Global,
     program: &Program,
@@ -387,141 +330,12 @@ fn told_of(
     planned: Option<&Planned>,
 ) -> u8 {
     let mut out = Counted::new(Plain(io::writer(rt)));
-    let told = match task {
+    match task {
         Task::Play { bytes, all, .. } => {
             let kind = kind_of(all);
-            play_accepted(alloc, kind, program, text, bytes, board, planned, &mut out)
+            let told = play_accepted(alloc, kind, program, text, bytes, board, planned, &mut out);
+            status_of(rt, told)
         }
-        _ => check_accepted(program, board, &mut out),
-    };
-    match told {
-        Ok(status) => status,
-        Err(fault) => refuse_untold(rt, fault),
+        _ => or_lost(check_program(program, board, &mut out)),
     }
-}
-
-/// Draws the waves of a play that ended with this status, where it was played at all. Answers the status, or that they
-/// are not all drawn.
-fn draw_behind(
-    rt: &HostRuntime,
-    alloc: Global,
-    program: &Program,
-    task: Task<'_>,
-    waves: Waves<'_>,
-    planned: &Planned,
-    file: File,
-    status: u8,
-) -> u8 {
-    if status != Status::Pass.number() && status != Status::Fail.number() {
-        return status;
-    }
-    let drawn = match planned.stage(alloc, drawn_as(task, waves, status)) {
-        Ok(stage) => draw_waves(alloc, program, stage, waves, file),
-        Err(_) => Err(Undrawn::NoMemory),
-    };
-    match drawn {
-        Ok(()) => {}
-        Err(Undrawn::NoMemory) => return tell_memory(rt),
-        Err(Undrawn::Broken) => {
-            let _lost = refuse_waves(rt, waves.file, InputFault::Unreadable);
-        }
-    }
-    status_behind(status, drawn)
-}
-
-/// The kind of player whose play is drawn, of one that ended with this status: where it is not told which bits fail, a
-/// play without a failure is drawn as one that plays on, for which no board is needed that judges.
-fn drawn_as(task: Task<'_>, waves: Waves<'_>, status: u8) -> Kind {
-    let all = matches!(task, Task::Play { all: true, .. });
-    kind_of(all || !waves.fails && status == Status::Pass.number())
-}
-
-/// Tells that a file of waves cannot be made, or that memory ran out for it. Answers the exit status.
-fn refuse_waves(rt: &HostRuntime, name: &str, fault: InputFault) -> u8 {
-    let status = refuse_input(rt, name, fault);
-    match fault {
-        InputFault::Unreadable => Status::Lost.number(),
-        InputFault::NoMemory => status,
-    }
-}
-
-/// Reads and accepts a text. Else tells why not, and answers the exit status: no connection is opened then.
-fn read_program(
-    rt: &HostRuntime,
-    alloc: Global,
-    name: Option<&str>,
-    explain: bool,
-) -> Result<AcceptedText, u8> {
-    match read_text(rt, alloc, name) {
-        Ok(text) => AcceptedText::accept(rt, alloc, text, explain),
-        Err(fault) => Err(refuse_input(rt, name.unwrap_or("-"), fault)),
-    }
-}
-
-/// The kind of player that is asked for: one that tells all failures plays on.
-fn kind_of(all: bool) -> Kind {
-    if all { Kind::PlaysOn } else { Kind::Stops }
-}
-
-/// Serves a board to clients, one after another, and tells how each ended and how the board then stands. Answers the
-/// exit status: the greatest that one of them ended with.
-fn serve(rt: &HostRuntime, board: &mut Board, serving: Serving) -> Result<u8, Broken> {
-    let status = match listen(rt, serving.port) {
-        Ok(listener) => {
-            tell_listening(serving.port, &mut Counted::new(Plain(rt.stderr())))?;
-            serve_clients(rt, &listener, board, serving)?
-        }
-        Err(_) => tell_served(Served::Broken, &mut Counted::new(Plain(io::writer(rt))))?,
-    };
-    write_report(board, &mut Counted::new(Plain(io::writer(rt))))?;
-    Ok(status)
-}
-
-/// Serves as many clients as are wanted. Answers the greatest exit status that one of them ended with.
-fn serve_clients(
-    rt: &HostRuntime,
-    listener: &TcpListener,
-    board: &mut Board,
-    serving: Serving,
-) -> Result<u8, Broken> {
-    let mut worst = Status::Pass.number();
-    for _ in 0..serving.connections {
-        let status = serve_client(rt, listener, board, serving)?;
-        worst = worst.max(status);
-    }
-    Ok(worst)
-}
-
-/// Waits for a client and serves it. Answers the exit status.
-fn serve_client(
-    rt: &HostRuntime,
-    listener: &TcpListener,
-    board: &mut Board,
-    serving: Serving,
-) -> Result<u8, Broken> {
-    let mut out = Counted::new(Plain(io::writer(rt)));
-    match accept(listener, serving.timeout) {
-        Ok(link) => {
-            let mut reader = Counted::new(link.reader);
-            let mut writer = Counted::new(link.writer);
-            run_serve(board, &mut reader, &mut writer, serving.at_most, &mut out)
-        }
-        Err(_) => tell_served(Served::Broken, &mut out),
-    }
-}
-
-/// Tells why no board was made, and where it is asked for where that lies. Answers the exit status.
-fn refuse_board(rt: &HostRuntime, fault: &Unmade, explain: bool) -> u8 {
-    let mut err = Counted::new(Plain(rt.stderr()));
-    or_lost(tell_unmade(rt.alloc(), fault, explain, &mut err))
-}
-
-/// Tells that no text of a program was read. Answers the exit status.
-fn refuse_input(rt: &HostRuntime, name: &str, fault: InputFault) -> u8 {
-    let mut err = Counted::new(Plain(rt.stderr()));
-    let status = match fault {
-        InputFault::Unreadable => refuse_file(name, &mut err),
-        InputFault::NoMemory => refuse_memory(&mut err),
-    };
-    or_lost(status)
 }

@@ -1,8 +1,8 @@
 //! The waves of a play, drawn into a file.
 
 use byte_streams::{Counted, Plain};
-use command_line::{InputFault, Request, Waves, head_of, is_in_use};
-use play_explained::plain::Program;
+use command_line::{InputFault, Planned, Request, Waves, head_of, is_in_use};
+use play_explained::plain::{Kind, Program};
 use play_waves::{Extras, Stage, Undrawn, WithoutStrings, begins_as_waves, write_waves};
 use std::alloc::Global;
 use std::fs::File;
@@ -27,15 +27,21 @@ pub(crate) fn may_be_made(
     Ok(head.is_empty() || begins_as_waves(&head))
 }
 
-/// Draws the waves of an accepted program, as the player of a stage plays it, into a file, as they are asked for.
+/// Draws the waves of an accepted program, as a player of this kind plays it on the board of a plan, into a file, as
+/// they are asked for.
 pub(crate) fn draw_waves(
     alloc: Global,
     program: &Program,
-    stage: Stage,
+    planned: &Planned,
+    kind: Kind,
     waves: Waves<'_>,
     file: File,
 ) -> Result<(), Undrawn> {
     let Ok(mut writer) = BufWriter::new(alloc, file) else {
+        return Err(Undrawn::NoMemory);
+    };
+    // Made last: it is dear to take apart.
+    let Ok(stage) = Stage::powered_up(alloc, planned.plan(), kind) else {
         return Err(Undrawn::NoMemory);
     };
     let extras = Extras {

@@ -210,22 +210,24 @@ fn told(rt: &impl Abort, alloc: Global, answers: &[u8]) -> Result<(Vec<u8>, u8),
     Ok((out.into_inner(), status.unwrap_or(255)))
 }
 
+/// Answers to a play to the end, what it tells, and its status.
+const TOLD: &[(&[u8], &[u8], u8)] = &[
+    (b"01110", b"pass\n", 0),
+    (b"10", b"lost command 2\n", 3),
+    (b"10x", b"bad answer 78 command 2\n", 3),
+    (
+        b"11111",
+        b"fail command 1 data bit 0\nfail command 3 data bit 0\nfailures 2\n",
+        1,
+    ),
+];
+
 #[test]
 fn a_play_that_gives_no_verdict_tells_that_alone(rt: HostRuntime) -> Result<(), Fail> {
-    let rows: [(&[u8], &[u8], u8); 4] = [
-        (b"01110", b"pass\n", 0),
-        (b"10", b"lost command 2\n", 3),
-        (b"10x", b"bad answer 78 command 2\n", 3),
-        (
-            b"11111",
-            b"fail command 1 data bit 0\nfail command 3 data bit 0\nfailures 2\n",
-            1,
-        ),
-    ];
-    for (answers, wanted, status) in rows {
+    for (answers, wanted, status) in TOLD {
         let (wrote, ended) = told(&rt, rt.alloc(), answers)?;
-        assert_eq!(rt; wrote.as_slice(), wanted);
-        assert_eq!(rt; ended, status);
+        assert_eq!(rt; wrote.as_slice(), *wanted);
+        assert_eq!(rt; ended, *status);
     }
     Ok(())
 }

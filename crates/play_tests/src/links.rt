@@ -55,79 +55,101 @@ fn in_work(k: usize) -> usize {
 fn a_loss_at_each_byte_names_the_command_and_leaves_a_board_that_plays_on(
     rt: HostRuntime,
 ) -> Result<(), Fail> {
-    let alloc = rt.alloc();
     for k in 0..35 {
-        for piece in [1, 3, 64] {
-            let (ending, bytes) = played(alloc, k, piece, ANSWERS)?;
-            let wanted = if k < SENT.len() {
-                Ending::Lost {
-                    command: in_work(k),
-                }
-            } else {
-                Ending::Pass
-            };
-            assert_eq!(rt; ending, wanted);
-            assert_eq!(rt; bytes.as_slice(), &SENT[..k.min(SENT.len())]);
-            let mut board = Board::bare(alloc, 1)?;
-            let (served_by, _) = served(alloc, &mut board, &bytes, 1000);
-            let wanted = if k < SENT.len() {
-                Served::Closed
-            } else {
-                Served::Quit
-            };
-            assert_eq!(rt; served_by, wanted);
-            let (served_by, answers) = served(alloc, &mut board, SENT, 1000);
-            assert_eq!(rt; served_by, Served::Quit);
-            assert_eq!(rt; answers.as_slice(), ANSWERS);
-            let (ending, _) = played(alloc, 1000, piece, &answers)?;
-            assert_eq!(rt; ending, Ending::Pass);
+        for piece in &[1, 3, 64][..] {
+            assert_loss(&rt, rt.alloc(), k, *piece)?;
         }
     }
     Ok(())
 }
 
+/// Asserts how a play ends whose writer is lost after `k` bytes, and what the board that took these does then.
+fn assert_loss(rt: &impl Abort, alloc: Global, k: usize, piece: usize) -> Result<(), Fail> {
+    let (ending, bytes) = played(alloc, k, piece, ANSWERS)?;
+    let (wanted, left) = if k < SENT.len() {
+        let command = in_work(k);
+        (Ending::Lost { command }, Served::Closed)
+    } else {
+        (Ending::Pass, Served::Quit)
+    };
+    assert_eq!(rt; ending, wanted);
+    assert_eq!(rt; bytes.as_slice(), &SENT[..k.min(SENT.len())]);
+    let mut board = Board::bare(alloc, 1)?;
+    let (served_by, _) = served(alloc, &mut board, &bytes, 1000);
+    assert_eq!(rt; served_by, left);
+    let (served_by, answers) = served(alloc, &mut board, SENT, 1000);
+    assert_eq!(rt; served_by, Served::Quit);
+    assert_eq!(rt; answers.as_slice(), ANSWERS);
+    assert_passes(rt, alloc, piece, &answers)
+}
+
+/// Asserts that the scan passes by these answers.
+fn assert_passes(rt: &impl Abort, alloc: Global, piece: usize, answers: &[u8]) -> Result<(), Fail> {
+    let (ending, _) = played(alloc, 1000, piece, answers)?;
+    assert_eq!(rt; ending, Ending::Pass);
+    Ok(())
+}
+
+/// What answers the scan, how its play ends then, and how many bytes it sends.
+const ANSWERED: &[(&[u8], Ending, usize)] = &[
+    (b"", Ending::Lost { command: 1 }, 33),
+    (b"1", Ending::Lost { command: 1 }, 33),
+    (
+        b"00",
+        Ending::Fail {
+            command: 1,
+            part: Part::Data,
+            bit: 0,
+        },
+        34,
+    ),
+    (
+        b"11",
+        Ending::Fail {
+            command: 1,
+            part: Part::Data,
+            bit: 1,
+        },
+        34,
+    ),
+    (
+        b"1x",
+        Ending::BadAnswer {
+            command: 1,
+            byte: b'x',
+        },
+        33,
+    ),
+];
+
 #[test]
 fn what_answers_a_play_is_told(rt: HostRuntime) -> Result<(), Fail> {
-    let lost = Ending::Lost { command: 1 };
-    let fail = |bit| Ending::Fail {
-        command: 1,
-        part: Part::Data,
-        bit,
-    };
-    let bad = Ending::BadAnswer {
-        command: 1,
-        byte: b'x',
-    };
-    let cases: [(&[u8], Ending, usize); 5] = [
-        (b"", lost, 33),
-        (b"1", lost, 33),
-        (b"00", fail(0), 34),
-        (b"11", fail(1), 34),
-        (b"1x", bad, 33),
-    ];
-    for (answers, wanted, count) in cases {
+    for (answers, wanted, count) in ANSWERED {
         let (ending, bytes) = played(rt.alloc(), 1000, 64, answers)?;
-        assert_eq!(rt; ending, wanted);
-        assert_eq!(rt; bytes.as_slice(), &SENT[..count]);
+        assert_eq!(rt; ending, *wanted);
+        assert!(rt; SENT.starts_with(&bytes));
+        assert_eq!(rt; bytes.len(), *count);
     }
     Ok(())
 }
 
+/// Bytes to a board, how many of them it takes at most, how serving it ends, and what it answers.
+const SERVED: &[(&[u8], u64, Served, &[u8])] = &[
+    (SENT, 1000, Served::Quit, ANSWERS),
+    (b"R", 1000, Served::Closed, b"1"),
+    (b"RZR", 1000, Served::Refused(b'Z'), b"1"),
+    (b"Z", 1000, Served::Refused(b'Z'), b""),
+    (SENT, 0, Served::Bound, b""),
+    (SENT, 12, Served::Bound, b""),
+];
+
 #[test]
 fn how_serving_ends_is_told(rt: HostRuntime) -> Result<(), Fail> {
-    let cases: [(&[u8], u64, Served, &[u8]); 6] = [
-        (SENT, 1000, Served::Quit, ANSWERS),
-        (b"R", 1000, Served::Closed, b"1"),
-        (b"RZR", 1000, Served::Refused(b'Z'), b"1"),
-        (b"Z", 1000, Served::Refused(b'Z'), b""),
-        (SENT, 0, Served::Bound, b""),
-        (SENT, 12, Served::Bound, b""),
-    ];
-    for (bytes, max_bytes, wanted, answers) in cases {
+    for (bytes, max_bytes, wanted, answers) in SERVED {
         let mut board = Board::bare(rt.alloc(), 1)?;
-        let (ended, wrote) = served(rt.alloc(), &mut board, bytes, max_bytes);
-        assert_eq!(rt; ended, wanted);
-        assert_eq!(rt; wrote.as_slice(), answers);
+        let (ended, wrote) = served(rt.alloc(), &mut board, bytes, *max_bytes);
+        assert_eq!(rt; ended, *wanted);
+        assert_eq!(rt; wrote.as_slice(), *answers);
     }
     Ok(())
 }
@@ -187,25 +209,37 @@ fn looped(alloc: Global, down: &[u8], up: &[u8], k: usize) -> Result<Ending, Fai
     Ok(loop_over(&mut player_end, &mut board_end, player, &mut board))
 }
 
+/// What the board's end reads, what the player's end reads, how many bytes the board's end writes before it is lost, and
+/// how the loop ends.
+const LOOPED: &[(&[u8], &[u8], usize, Ending)] = &[
+    (SENT, ANSWERS, 1000, Ending::Pass),
+    (SENT, b"1", 1000, Ending::Lost { command: 1 }),
+    (SENT, ANSWERS, 1, Ending::Lost { command: 1 }),
+    (
+        b"r2626262626004262604041R53Z726040Q",
+        ANSWERS,
+        1000,
+        Ending::Lost { command: 1 },
+    ),
+    (
+        b"r2626262626004262604041R530726040Q",
+        ANSWERS,
+        1000,
+        Ending::Lost { command: 1 },
+    ),
+    (
+        b"r2626262626004262604041R53R72604QQ",
+        ANSWERS,
+        1000,
+        Ending::Lost { command: 1 },
+    ),
+];
+
 #[test]
 fn a_loop_shows_what_its_ends_did_not_write(rt: HostRuntime) -> Result<(), Fail> {
-    let alloc = rt.alloc();
-    let lost = Ending::Lost { command: 1 };
-    assert_eq!(rt; looped(alloc, SENT, ANSWERS, 1000)?, Ending::Pass);
-    assert_eq!(rt; looped(alloc, SENT, b"1", 1000)?, lost);
-    assert_eq!(rt; looped(alloc, SENT, ANSWERS, 1)?, lost);
-    assert_eq!(rt;
-        looped(alloc, b"r2626262626004262604041R53Z726040Q", ANSWERS, 1000)?,
-        lost
-    );
-    assert_eq!(rt;
-        looped(alloc, b"r2626262626004262604041R530726040Q", ANSWERS, 1000)?,
-        lost
-    );
-    assert_eq!(rt;
-        looped(alloc, b"r2626262626004262604041R53R72604QQ", ANSWERS, 1000)?,
-        lost
-    );
+    for (down, up, k, wanted) in LOOPED {
+        assert_eq!(rt; looped(rt.alloc(), down, up, *k)?, *wanted);
+    }
     Ok(())
 }
 
@@ -248,7 +282,7 @@ fn scan_of_100(alloc: Global) -> Result<Vec<u8>, AllocError> {
 }
 
 /// How the lists of each device are packed, their bits and the place of bit 0 in their words.
-fn layouts(rt: &impl Abort, alloc: Global, board: &Board) -> Result<String, AllocError> {
+fn layouts(rt: &impl Abort, alloc: Global, board: &Board) -> Result<String, Fail> {
     let snapshot = board.snapshot();
     let mut shown = String::new(alloc);
     for i in 0..snapshot.devices() {
@@ -265,21 +299,36 @@ fn layouts(rt: &impl Abort, alloc: Global, board: &Board) -> Result<String, Allo
 
 #[test]
 fn a_scan_that_is_served_leaves_each_list_as_its_bytes_do(rt: HostRuntime) -> Result<(), Fail> {
-    let alloc = rt.alloc();
-    let bytes = scan_of_100(alloc)?;
-    let mut model = coded_board(alloc)?;
-    for byte in &bytes {
-        let _ = model.byte(*byte);
-    }
-    let wanted = layouts(&rt, alloc, &model)?;
-    for piece in [1024, 1, 3, 4, 63, 64, 65] {
-        let mut board = coded_board(alloc)?;
-        let mut writer = Counted::new(Vec::new(alloc));
-        let mut reader = Counted::new(Stop::new(bytes.as_slice(), usize::MAX, piece));
-        let ended = serve_over(&mut reader, &mut writer, &mut board, 1000);
-        assert_eq!(rt; ended, Served::Closed);
-        assert_eq!(rt; writer.into_inner().len(), 100);
-        assert_eq!(rt; layouts(&rt, alloc, &board)?.as_str(), wanted.as_str());
+    let bytes = scan_of_100(rt.alloc())?;
+    let wanted = layouts_by_bytes(&rt, rt.alloc(), &bytes)?;
+    for piece in &[1024, 1, 3, 4, 63, 64, 65][..] {
+        let found = layouts_served(&rt, rt.alloc(), &bytes, *piece)?;
+        assert_eq!(&rt; found.as_str(), wanted.as_str());
     }
     Ok(())
+}
+
+/// The layouts that bytes leave that a board takes one by one.
+fn layouts_by_bytes(rt: &impl Abort, alloc: Global, bytes: &[u8]) -> Result<String, Fail> {
+    let mut board = coded_board(alloc)?;
+    for byte in bytes {
+        let _ = board.byte(*byte);
+    }
+    layouts(rt, alloc, &board)
+}
+
+/// The layouts that they leave where they are served in pieces.
+fn layouts_served(
+    rt: &impl Abort,
+    alloc: Global,
+    bytes: &[u8],
+    piece: usize,
+) -> Result<String, Fail> {
+    let mut board = coded_board(alloc)?;
+    let mut writer = Counted::new(Vec::new(alloc));
+    let mut reader = Counted::new(Stop::new(bytes, usize::MAX, piece.max(1)));
+    let ended = serve_over(&mut reader, &mut writer, &mut board, 1000);
+    assert_eq!(rt; ended, Served::Closed);
+    assert_eq!(rt; writer.into_inner().len(), 100);
+    layouts(rt, alloc, &board)
 }

@@ -31,118 +31,103 @@ fn checked(rt: &impl Abort, alloc: Global, text: &[u8]) -> Result<(Vec<u8>, Vec<
     Ok((out.into_inner(), err.into_inner(), status))
 }
 
-/// Asserts what the run of each text over so many devices writes, tells and ends with.
-fn assert_runs(
-    rt: &impl Abort,
-    alloc: Global,
-    rows: &[(&[u8], usize, &[u8], &[u8], u8)],
-) -> Result<(), Fail> {
-    for (text, devices, out, err, status) in rows {
-        let (wrote, told, ended) = ran(rt, alloc, text, *devices, true)?;
+/// Texts, on how many bare devices each is run, what that writes to output and errors, and its status.
+const RUNS: &[(&[u8], usize, &[u8], &[u8], u8)] = &[
+    (
+        b"",
+        1,
+        b"bytes r26262626260Q\npass\nU1 RESET 11 BYPASS\n",
+        b"",
+        0,
+    ),
+    (
+        b"STATE IDLE;",
+        1,
+        b"bytes r26262626260040Q\npass\nU1 IDLE 11 BYPASS\n",
+        b"",
+        0,
+    ),
+    (
+        b"STATE IRPAUSE; state idle ;",
+        1,
+        b"bytes r2626262626004262604260402626040Q\npass\nU1 IDLE 01 -\n",
+        b"",
+        0,
+    ),
+    (
+        b"STATE DRPAUSE;",
+        2,
+        b"bytes r2626262626004260426040Q\npass\nU1 DRPAUSE 11 BYPASS\nU2 DRPAUSE 11 BYPASS\n",
+        b"",
+        0,
+    ),
+    (
+        b"SIR 2 TDI (3) TDO (1);",
+        1,
+        b"bytes r2626262626004262604041R53R726040Q\npass\nU1 IDLE 11 BYPASS\n",
+        b"",
+        0,
+    ),
+    (
+        b"SIR 4 TDI (F); HDR 1 TDI (0) TDO (1); SDR 1 TDI (1) TDO (1);",
+        2,
+        b"bytes r26262626260042626040415151537260402604040R43R726040Q\nfail command 3 header bit 0\n\
+        U1 IDLE 11 BYPASS\nU2 IDLE 11 BYPASS\n",
+        b"",
+        1,
+    ),
+    (
+        b"STATE DRCAPTURE;",
+        1,
+        b"",
+        b"svf S8 BadState statement 1\n",
+        2,
+    ),
+    (
+        b"STATE IDLE; PIO (HL);",
+        1,
+        b"",
+        b"svf S13 Unsupported statement 2\n",
+        2,
+    ),
+    (b"STATE IDLE", 1, b"", b"svf S2 Unclosed statement 1\n", 2),
+];
+
+#[test]
+fn runs_of_the_table(rt: HostRuntime) -> Result<(), Fail> {
+    for (text, devices, out, err, status) in RUNS {
+        let (wrote, told, ended) = ran(&rt, rt.alloc(), text, *devices, true)?;
         assert_eq!(rt; wrote.as_slice(), *out);
         assert_eq!(rt; told.as_slice(), *err);
         assert_eq!(rt; ended, *status);
     }
-    Ok(())
-}
-
-#[test]
-fn runs_of_the_table(rt: HostRuntime) -> Result<(), Fail> {
-    let rows: [(&[u8], usize, &[u8], &[u8], u8); 9] = [
-        (
-            b"",
-            1,
-            b"bytes r26262626260Q\npass\nU1 RESET 11 BYPASS\n",
-            b"",
-            0,
-        ),
-        (
-            b"STATE IDLE;",
-            1,
-            b"bytes r26262626260040Q\npass\nU1 IDLE 11 BYPASS\n",
-            b"",
-            0,
-        ),
-        (
-            b"STATE IRPAUSE; state idle ;",
-            1,
-            b"bytes r2626262626004262604260402626040Q\npass\nU1 IDLE 01 -\n",
-            b"",
-            0,
-        ),
-        (
-            b"STATE DRPAUSE;",
-            2,
-            b"bytes r2626262626004260426040Q\npass\nU1 DRPAUSE 11 BYPASS\nU2 DRPAUSE 11 BYPASS\n",
-            b"",
-            0,
-        ),
-        (
-            b"SIR 2 TDI (3) TDO (1);",
-            1,
-            b"bytes r2626262626004262604041R53R726040Q\npass\nU1 IDLE 11 BYPASS\n",
-            b"",
-            0,
-        ),
-        (
-            b"SIR 4 TDI (F); HDR 1 TDI (0) TDO (1); SDR 1 TDI (1) TDO (1);",
-            2,
-            b"bytes r26262626260042626040415151537260402604040R43R726040Q\nfail command 3 header bit 0\n\
-            U1 IDLE 11 BYPASS\nU2 IDLE 11 BYPASS\n",
-            b"",
-            1,
-        ),
-        (
-            b"STATE DRCAPTURE;",
-            1,
-            b"",
-            b"svf S8 BadState statement 1\n",
-            2,
-        ),
-        (
-            b"STATE IDLE; PIO (HL);",
-            1,
-            b"",
-            b"svf S13 Unsupported statement 2\n",
-            2,
-        ),
-        (b"STATE IDLE", 1, b"", b"svf S2 Unclosed statement 1\n", 2),
-    ];
-    assert_runs(&rt, rt.alloc(), &rows)?;
     let (wrote, _, _) = ran(&rt, rt.alloc(), b"STATE RESET;", 1, false)?;
     assert_eq!(rt; wrote.as_slice(), b"pass\nU1 RESET 11 BYPASS\n".as_slice());
     Ok(())
 }
 
+/// Texts, what the check of each writes to output and errors, and its status.
+const CHECKS: &[(&[u8], &[u8], &[u8], u8)] = &[
+    (b"", b"accepted 0 statements 0 steps\n", b"", 0),
+    (
+        b"FREQUENCY 3E6 HZ; RUNTEST 1E-6 SEC;",
+        b"accepted 2 statements 1 steps\n",
+        b"",
+        0,
+    ),
+    (b"SDR 4;", b"", b"svf S7 MissingTdi statement 1\n", 2),
+    (
+        b"STATE IDLE; STATE DRPAUSE",
+        b"",
+        b"svf S2 Unclosed statement 2\n",
+        2,
+    ),
+];
+
 #[test]
 fn checks_of_the_table(rt: HostRuntime) -> Result<(), Fail> {
-    let rows: [(&[u8], &[u8], &[u8], u8); 4] = [
-        (b"", b"accepted 0 statements 0 steps\n", b"", 0),
-        (
-            b"FREQUENCY 3E6 HZ; RUNTEST 1E-6 SEC;",
-            b"accepted 2 statements 1 steps\n",
-            b"",
-            0,
-        ),
-        (b"SDR 4;", b"", b"svf S7 MissingTdi statement 1\n", 2),
-        (
-            b"STATE IDLE; STATE DRPAUSE",
-            b"",
-            b"svf S2 Unclosed statement 2\n",
-            2,
-        ),
-    ];
-    assert_checks(&rt, rt.alloc(), &rows)
-}
-
-/// Asserts what the check of each text writes, tells and ends with.
-fn assert_checks(
-    rt: &impl Abort,
-    alloc: Global,
-    rows: &[(&[u8], &[u8], &[u8], u8)],
-) -> Result<(), Fail> {
-    for (text, out, err, status) in rows {
-        let (wrote, told, ended) = checked(rt, alloc, text)?;
+    for (text, out, err, status) in CHECKS {
+        let (wrote, told, ended) = checked(&rt, rt.alloc(), text)?;
         assert_eq!(rt; wrote.as_slice(), *out);
         assert_eq!(rt; told.as_slice(), *err);
         assert_eq!(rt; ended, *status);

@@ -67,19 +67,28 @@ const BARE: usize = 32;
 
 /// The names of the descriptions that a board file names.
 pub(crate) fn names_of(rt: &HostRuntime, text: &[u8]) -> io::Result<()> {
-    let first = bsdl_names(rt.alloc(), text);
-    if !matches!(first, Err(BoardFault::NoMemory)) {
-        rt.println(USUAL)?;
-        return tell_names(rt, first);
+    let told = tell_first_names(rt, &bsdl_names(rt.alloc(), text));
+    if told? {
+        return Ok(());
     }
     rt.println(REFUSED)?;
-    tell_names(rt, bsdl_names(rt.alloc(), text))
+    tell_names(rt, &bsdl_names(rt.alloc(), text))
 }
 
-fn tell_names(rt: &HostRuntime, found: Result<Vec<String>, BoardFault>) -> io::Result<()> {
+/// Tells what the first call found, unless it wanted memory. Answers whether it told it.
+fn tell_first_names(rt: &HostRuntime, found: &Result<Vec<String>, BoardFault>) -> io::Result<bool> {
+    if matches!(found, Err(BoardFault::NoMemory)) {
+        return Ok(false);
+    }
+    rt.println(USUAL)?;
+    tell_names(rt, found)?;
+    Ok(true)
+}
+
+fn tell_names(rt: &HostRuntime, found: &Result<Vec<String>, BoardFault>) -> io::Result<()> {
     match found {
         Ok(names) => {
-            for name in &names {
+            for name in names {
                 rt.println(name.as_str())?;
             }
             Ok(())
@@ -102,13 +111,22 @@ fn board_file(name: &str) -> &'static [u8] {
 pub(crate) fn from_text(rt: &HostRuntime, name: &str, description: &[u8]) -> io::Result<()> {
     let text = board_file(name);
     let files = [("device", description)];
-    let first = Board::from_text(rt.alloc(), text, &files);
-    if !matches!(first, Err(BoardFault::NoMemory)) {
-        rt.println(USUAL)?;
-        return tell_board(rt, first);
+    let told = tell_first(rt, &Board::from_text(rt.alloc(), text, &files));
+    if told? {
+        return Ok(());
     }
     rt.println(REFUSED)?;
-    tell_board(rt, Board::from_text(rt.alloc(), text, &files))
+    tell_board(rt, &Board::from_text(rt.alloc(), text, &files))
+}
+
+/// Tells what the first call made, unless it wanted memory. Answers whether it told it.
+fn tell_first(rt: &HostRuntime, found: &Result<Board, BoardFault>) -> io::Result<bool> {
+    if matches!(found, Err(BoardFault::NoMemory)) {
+        return Ok(false);
+    }
+    rt.println(USUAL)?;
+    tell_board(rt, found)?;
+    Ok(true)
 }
 
 /// The board of cores that follow, of devices of this description; `None` where it cannot be made.
@@ -118,18 +136,17 @@ pub(crate) fn following(alloc: Global, description: &[u8]) -> Option<Board> {
 
 /// A board of bare devices is made.
 pub(crate) fn bare(rt: &HostRuntime) -> io::Result<()> {
-    let first = Board::bare(rt.alloc(), BARE);
-    if !matches!(first, Err(BoardFault::NoMemory)) {
-        rt.println(USUAL)?;
-        return tell_board(rt, first);
+    let told = tell_first(rt, &Board::bare(rt.alloc(), BARE));
+    if told? {
+        return Ok(());
     }
     rt.println(REFUSED)?;
-    tell_board(rt, Board::bare(rt.alloc(), BARE))
+    tell_board(rt, &Board::bare(rt.alloc(), BARE))
 }
 
-fn tell_board(rt: &HostRuntime, found: Result<Board, BoardFault>) -> io::Result<()> {
+fn tell_board(rt: &HostRuntime, found: &Result<Board, BoardFault>) -> io::Result<()> {
     match found {
-        Ok(board) => tell_report(rt, &board),
+        Ok(board) => tell_report(rt, board),
         Err(fault) => rt.println(fault),
     }
 }

@@ -30,46 +30,50 @@ pub(crate) fn player_and_board(alloc: Global, text: &[u8]) -> Option<(Player, Bo
 
 /// A player and a board are joined by two pipes and play to the end.
 pub(crate) fn join(rt: &HostRuntime, text: &[u8]) -> io::Result<()> {
-    let alloc = rt.alloc();
-    let Some((player, board)) = player_and_board(alloc, text) else {
-        return rt.println(BEFORE);
-    };
-    let Ok(before) = report_of(alloc, &board) else {
-        return rt.println(BEFORE);
-    };
+    match player_and_board(rt.alloc(), text) {
+        Some((player, board)) => match report_of(rt.alloc(), &board) {
+            Ok(before) => join_both(rt, player, board, &before),
+            Err(_) => rt.println(BEFORE),
+        },
+        None => rt.println(BEFORE),
+    }
+}
+
+/// Joins a fresh player and a board, which reports this.
+fn join_both(rt: &HostRuntime, player: Player, board: Board, before: &[u8]) -> io::Result<()> {
     let steps = player.program().len();
     if !player.is_fresh() {
         return rt.println(CHANGED);
     }
-    match Joined::new(alloc, player, board, ROOM, ROOM) {
-        Ok(joined) => {
-            rt.println(USUAL)?;
-            tell_joined(rt, joined)
-        }
-        Err(back) => join_again(rt, back, steps, &before),
+    match Joined::new(rt.alloc(), player, board, ROOM, ROOM) {
+        Ok(mut joined) => tell_joined(rt, USUAL, &mut joined),
+        Err(back) => join_again(rt, back, steps, before),
     }
 }
 
 /// What came back for want of memory is as it was, and is joined again.
 fn join_again(rt: &HostRuntime, back: Unjoined, steps: usize, before: &[u8]) -> io::Result<()> {
-    let alloc = rt.alloc();
-    let is_as_it_was = back.player.is_fresh()
-        && back.player.kind() == Kind::PlaysOn
-        && back.player.program().len() == steps
-        && back.player.failures().total == 0
-        && report_of(alloc, &back.board).is_ok_and(|after| after.as_slice() == before);
-    if !is_as_it_was || !back.player.is_fresh() {
+    if !is_as_it_was(rt.alloc(), &back, steps, before) || !back.player.is_fresh() {
         return rt.println(CHANGED);
     }
-    rt.println(REFUSED)?;
-    match Joined::new(alloc, back.player, back.board, ROOM, ROOM) {
-        Ok(joined) => tell_joined(rt, joined),
-        Err(_) => rt.println("no memory"),
+    match Joined::new(rt.alloc(), back.player, back.board, ROOM, ROOM) {
+        Ok(mut joined) => tell_joined(rt, REFUSED, &mut joined),
+        Err(_) => rt.println(format_args!("{REFUSED}\nno memory")),
     }
 }
 
-/// How a joined play ends, what failed in it, and how its board stands then.
-fn tell_joined(rt: &HostRuntime, mut joined: Joined) -> io::Result<()> {
+/// Whether what came back is a fresh player of so many steps, and a board that reports this.
+fn is_as_it_was(alloc: Global, back: &Unjoined, steps: usize, before: &[u8]) -> bool {
+    back.player.is_fresh()
+        && back.player.kind() == Kind::PlaysOn
+        && back.player.program().len() == steps
+        && back.player.failures().total == 0
+        && report_of(alloc, &back.board).is_ok_and(|after| after.as_slice() == before)
+}
+
+/// Tells whether the call wanted memory, how the joined play ends, what failed in it, and how its board stands then.
+fn tell_joined(rt: &HostRuntime, first: &str, joined: &mut Joined) -> io::Result<()> {
+    rt.println(first)?;
     let ending: Ending = joined.finish();
     let total = joined.failures().total;
     rt.println(format_args!("{ending:?} {total}"))?;
@@ -78,20 +82,24 @@ fn tell_joined(rt: &HostRuntime, mut joined: Joined) -> io::Result<()> {
 
 /// A program's text is played, up to its first failure or to its end.
 pub(crate) fn play(rt: &HostRuntime, text: &[u8], all: bool) -> io::Result<()> {
-    let alloc = rt.alloc();
-    let Ok(mut board) = Board::bare(alloc, DEVICES) else {
+    match Board::bare(rt.alloc(), DEVICES) {
+        Ok(mut board) => play_on(rt, text, all, &mut board),
+        Err(_) => rt.println(BEFORE),
+    }
+}
+
+/// The same on this board.
+fn play_on(rt: &HostRuntime, text: &[u8], all: bool, board: &mut Board) -> io::Result<()> {
+    let Ok(before) = report_of(rt.alloc(), board) else {
         return rt.println(BEFORE);
     };
-    let Ok(before) = report_of(alloc, &board) else {
-        return rt.println(BEFORE);
-    };
-    let status = played(rt, text, all, &mut board);
+    let status = played(rt, text, all, board);
     if status != NO_MEMORY {
         return rt.println(format_args!("{USUAL}\nstatus {status}"));
     }
-    if report_of(alloc, &board).is_ok_and(|after| after.as_slice() == before.as_slice()) {
+    if report_of(rt.alloc(), board).is_ok_and(|after| after.as_slice() == before.as_slice()) {
         rt.println(REFUSED)?;
-        let status = played(rt, text, all, &mut board);
+        let status = played(rt, text, all, board);
         return rt.println(format_args!("status {status}"));
     }
     rt.println(CHANGED)
@@ -113,15 +121,20 @@ fn played(rt: &HostRuntime, text: &[u8], all: bool, board: &mut Board) -> u8 {
 
 /// A program's text is checked.
 pub(crate) fn check(rt: &HostRuntime, text: &[u8]) -> io::Result<()> {
-    let Ok(board) = Board::bare(rt.alloc(), DEVICES) else {
-        return rt.println(BEFORE);
-    };
-    let status = checked(rt, text, &board);
+    match Board::bare(rt.alloc(), DEVICES) {
+        Ok(board) => check_on(rt, text, &board),
+        Err(_) => rt.println(BEFORE),
+    }
+}
+
+/// The same with this board.
+fn check_on(rt: &HostRuntime, text: &[u8], board: &Board) -> io::Result<()> {
+    let status = checked(rt, text, board);
     if status != NO_MEMORY {
         return rt.println(format_args!("{USUAL}\nstatus {status}"));
     }
     rt.println(REFUSED)?;
-    let status = checked(rt, text, &board);
+    let status = checked(rt, text, board);
     rt.println(format_args!("status {status}"))
 }
 

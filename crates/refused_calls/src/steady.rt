@@ -29,8 +29,16 @@ pub(crate) fn run(rt: &HostRuntime, how: &str, text: &[u8]) -> io::Result<()> {
     let Some(mut made) = make(rt.alloc(), text) else {
         return rt.println(BEFORE);
     };
+    if how == "play" {
+        play_made(rt, made)
+    } else {
+        run_made(rt, how, &mut made)
+    }
+}
+
+/// Does nothing, or moves bytes.
+fn run_made(rt: &HostRuntime, how: &str, made: &mut Made) -> io::Result<()> {
     match how {
-        "start" => rt.println("start"),
         "bytes" => {
             move_bytes(&mut made.player, &mut made.board);
             move_bytes(&mut made.player, &mut made.following);
@@ -45,36 +53,44 @@ pub(crate) fn run(rt: &HostRuntime, how: &str, text: &[u8]) -> io::Result<()> {
             let followed = move_runs(&mut made.following);
             rt.println(format_args!("{given} given, {idle} and {followed} idle"))
         }
-        _ => {
-            let Made {
-                player,
-                mut board,
-                ..
-            } = made;
-            if !player.is_fresh() {
-                return rt.println(BEFORE);
-            }
-            let ending = play_board(player, &mut board);
-            rt.println(format_args!("{ending:?}"))
-        }
+        _ => rt.println("start"),
     }
+}
+
+/// Plays at once.
+fn play_made(rt: &HostRuntime, made: Made) -> io::Result<()> {
+    let Made {
+        player,
+        mut board,
+        ..
+    } = made;
+    if !player.is_fresh() {
+        return rt.println(BEFORE);
+    }
+    let ending = play_board(player, &mut board);
+    rt.println(format_args!("{ending:?}"))
 }
 
 /// `None` for want of memory or where the text is refused.
 fn make(alloc: Global, text: &[u8]) -> Option<Made> {
+    let joined = join(alloc, text)?;
     let (player, board) = player_and_board(alloc, text)?;
-    let (second, beside) = player_and_board(alloc, text)?;
     let following = following(alloc, FOLLOWER)?;
-    if !second.is_fresh() {
-        return None;
-    }
-    let joined = Joined::new(alloc, second, beside, PIECE, PIECE).ok()?;
     Some(Made {
         player,
         board,
         joined,
         following,
     })
+}
+
+/// A player and a board, joined.
+fn join(alloc: Global, text: &[u8]) -> Option<Joined> {
+    let (player, board) = player_and_board(alloc, text)?;
+    if !player.is_fresh() {
+        return None;
+    }
+    Joined::new(alloc, player, board, PIECE, PIECE).ok()
 }
 
 /// A device of one output with a control, and one input.

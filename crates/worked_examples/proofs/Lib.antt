@@ -5,3 +5,16 @@ pub mod SingleCompute
 pub mod FollowingCompute
 pub mod Computed
 pub mod BoardFilesCompute
+pub mod CellReads
+pub mod FileReads
+pub mod InstructionReads
+pub mod ItemReads
+pub mod ListReads
+pub mod PassingReads
+pub mod PatternReads
+pub mod PortReads
+pub mod ReadLaws
+pub mod RefusalLaws
+pub mod Steps
+pub mod TextReads
+pub mod ValueReads

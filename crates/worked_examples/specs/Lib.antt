@@ -11,3 +11,10 @@ pub mod Expected
 pub mod BoardFileSamples
 pub mod BoardFileRows
 pub mod Small
+pub mod Lists
+pub mod Ports
+pub mod Quoted
+pub mod Values
+pub mod Entity
+pub mod SpelledTexts
+pub mod GrammarLaws

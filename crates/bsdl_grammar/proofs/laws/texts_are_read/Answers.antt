@@ -1,5 +1,0 @@
-use Rattle.bsdl_grammar.proofs.ReadLaws.{texts_are_read, devices_are_read}
-use Rattle.bsdl_grammar.proofs.laws.texts_are_read.Goals as goal
-
-pub returns : goal.returns
-returns c = record { entities = texts_are_read; devices = devices_are_read }
