@@ -5,7 +5,7 @@
 mod boards;
 mod descriptions;
 mod help;
-pub mod links;
+mod links;
 mod nodes;
 mod outputs;
 mod request;
@@ -16,6 +16,7 @@ mod usage;
 mod words;
 
 pub use boards::{Planned, make_board, plan_board};
+pub use links::{Link, connect, listen, next_client, pair};
 pub use outputs::{head_of, is_in_use};
 pub use request::{Request, Server, Serving, Task, Waves, parse};
 pub use streams::StandIns;

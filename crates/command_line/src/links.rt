@@ -58,7 +58,7 @@ pub fn listen(rt: &HostRuntime, port: u16) -> io::Result<TcpListener> {
 }
 
 /// Waits for the next client.
-pub fn accept(listener: &TcpListener, timeout: Option<u32>) -> io::Result<Link> {
+pub fn next_client(listener: &TcpListener, timeout: Option<u32>) -> io::Result<Link> {
     let (stream, _) = listener.accept()?;
     Link::new(stream, timeout)
 }

@@ -26,12 +26,6 @@ impl From<AllocError> for Unmade {
     }
 }
 
-impl From<BoardFault> for Unmade {
-    fn from(fault: BoardFault) -> Unmade {
-        Unmade::Refused(fault)
-    }
-}
-
 /// A board file, and the descriptions that it names.
 #[derive(Drop)]
 pub(crate) struct ReadBoard {

@@ -4,8 +4,7 @@ ghost use Rattle.std.specs.Prelude.{◌≡◌};
 use crate::statuses::or_lost;
 use board_description::Untold;
 use byte_streams::{Broken, Counted, End, Plain, Sink};
-use command_line::links::{Link, connect, pair};
-use command_line::{Planned, Server};
+use command_line::{Link, Planned, Server, connect, pair};
 use play_explained::plain::{
     Board, Ending, Kind, Program, run_loop, run_over, tell_unplayed, tell_verdict,
 };

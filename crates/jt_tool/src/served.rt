@@ -1,8 +1,7 @@
 //! A board that is served to clients.
 
 use byte_streams::{Broken, Counted, Plain};
-use command_line::Serving;
-use command_line::links::{accept, listen};
+use command_line::{Serving, listen, next_client};
 use output_words::Status;
 use play_explained::plain::{Board, Served, run_serve, tell_listening, tell_served, write_report};
 use std::io;
@@ -45,7 +44,7 @@ fn serve_client(
     serving: Serving,
 ) -> Result<u8, Broken> {
     let mut out = Counted::new(Plain(io::writer(rt)));
-    match accept(listener, serving.timeout) {
+    match next_client(listener, serving.timeout) {
         Ok(link) => {
             let mut reader = Counted::new(link.reader);
             let mut writer = Counted::new(link.writer);
