@@ -1,5 +1,5 @@
 //! Of what a limit is passed.
-ghost use Rattle.std.specs.Prelude.{◌≡◌, nat_le, map, not, option_map, unwrap_or, Some};
+ghost use Rattle.std.specs.Prelude.{◌≡◌, nat_le, map, not, option_map, unwrap_or, Some, []};
 ghost use Rattle.jt_limits.specs.Limits.{limits};
 ghost use Rattle.bsdl_text.specs.NumberView.{value};
 ghost use Rattle.bsdl_text.specs.WordView.{word_lexeme};
@@ -7,6 +7,7 @@ ghost use Rattle.bsdl_values.specs.CellView.{cell_row};
 ghost use Rattle.bsdl_values.specs.InstructionView as rows_view;
 ghost use Rattle.bsdl_entity.specs.PortsView as ports_view;
 ghost use Rattle.bsdl_description.specs.View.{description};
+ghost use Rattle.bsdl_sizes.specs.Counting as counting;
 ghost use Rattle.bsdl_sizes.specs.Limits as spec;
 
 use crate::spots::{Spot, attribute_spot, first_spot, inside, outside, unless_fits};
@@ -70,7 +71,7 @@ fn opcode_spot(described: &Description<'_>) -> Option<Spot>
 /// The first port with an index that is too large, or with which there are too many bits.
 fn port_spot(outline: &Outline<'_>) -> Option<Spot>
     ensures { result ≡ option_map Spot.Outside
-        (spec.port_beyond limits.port_bits (ports_view.ports outline.now.groups.items)) }
+        (spec.port_beyond [] (ports_view.ports outline.now.groups.items)) }
 {
     outside(port_beyond(&outline.groups))
 }
@@ -111,7 +112,7 @@ fn numbers_fit(rows: &[CellRow<'_>]) -> bool
 }
 
 fn port_beyond(groups: &[Group<'_>]) -> Option<usize>
-    ensures { result ≡ spec.port_beyond limits.port_bits (ports_view.ports groups.now) }
+    ensures { result ≡ spec.port_beyond [] (ports_view.ports groups.now) }
 {
     let mut left = PORT_BITS;
     for group in groups {
@@ -125,14 +126,14 @@ fn port_beyond(groups: &[Group<'_>]) -> Option<usize>
 
 /// How many of these bits a group of ports leaves, or its first port that is too large.
 fn left_behind(group: &Group<'_>, most: usize) -> Result<usize, usize>
-    ensures { result ≡ spec.left_behind most (ports_view.group group.now) }
+    ensures { result ≡ counting.left_behind most (ports_view.group group.now) }
 {
     left_behind_names(&group.names, width_of(group.range), most)
 }
 
 /// The same of the names of a group whose ports have so many bits.
 fn left_behind_names(names: &[Word<'_>], width: Option<usize>, most: usize) -> Result<usize, usize>
-    ensures { result ≡ spec.names_behind most width (map word_lexeme names.now) }
+    ensures { result ≡ counting.names_behind most width (map word_lexeme names.now) }
 {
     let mut left = most;
     for name in names {
@@ -145,7 +146,7 @@ fn left_behind_names(names: &[Word<'_>], width: Option<usize>, most: usize) -> R
 }
 
 fn bits_left(most: usize, width: Option<usize>) -> Option<usize>
-    ensures { result ≡ spec.bits_left most width }
+    ensures { result ≡ counting.bits_left most width }
 {
     match width {
         Some(width) if width <= most => Some(most - width),
@@ -155,7 +156,7 @@ fn bits_left(most: usize, width: Option<usize>) -> Option<usize>
 
 /// How many bits a port of this range has; none where an index is too large.
 fn width_of(range: Option<Range<'_>>) -> Option<usize>
-    ensures { result ≡ spec.width_within (option_map ports_view.range range.entry) }
+    ensures { result ≡ counting.width_within (option_map ports_view.range range.entry) }
 {
     match range {
         Some(range) => bits_of_range(range),
@@ -164,7 +165,7 @@ fn width_of(range: Option<Range<'_>>) -> Option<usize>
 }
 
 fn bits_of_range(range: Range<'_>) -> Option<usize>
-    ensures { result ≡ spec.width_within (Some (ports_view.range range.entry)) }
+    ensures { result ≡ counting.width_within (Some (ports_view.range range.entry)) }
 {
     if !is_at_most(range.high, SUBSCRIPT_LIMIT) {
         return None;

@@ -3,7 +3,7 @@ use Rattle.std.specs.Prelude.{Option}
 use Rattle.bsdl_text.specs.WordView.{word_lexeme}
 use Rattle.bsdl_text.specs.declared.names.Word.{Word}
 use Rattle.bsdl_entity.specs.PortsView.{range}
-use Rattle.bsdl_sizes.specs.Limits.{names_behind}
+use Rattle.bsdl_sizes.specs.Counting.{names_behind}
 use Rattle.bsdl_sizes.proofs.PortLaws.{of_names}
 use Rattle.bsdl_sizes.proofs.limits.left_behind.Goals as goal
 

@@ -1,6 +1,6 @@
 use Rattle.std.proofs.Common.{◌≡◌, drop, map}
 use Rattle.bsdl_text.specs.WordView.{word_lexeme}
-use Rattle.bsdl_sizes.specs.Limits.{names_behind}
+use Rattle.bsdl_sizes.specs.Counting.{names_behind}
 use Rattle.bsdl_sizes.proofs.limits.left_behind_names.Given as goal
 
 abbrev pub invariant-loop-name : goal.invariant-loop-name

@@ -1,7 +1,7 @@
 use Rattle.std.proofs.Common.{◌≡◌, drop}
 use Rattle.jt_limits.specs.Limits.{limits}
 use Rattle.bsdl_entity.specs.PortsView.{ports}
-use Rattle.bsdl_sizes.specs.Limits.{left_behind}
+use Rattle.bsdl_sizes.specs.Counting.{left_behind}
 use Rattle.bsdl_sizes.proofs.limits.port_beyond.Given as goal
 
 abbrev pub invariant-loop-group : goal.invariant-loop-group
