@@ -70,6 +70,13 @@ none_below x k some fits below =
     let low = bit_at-trailing_zeros w64 x (omega (arith, some)) fits in
     (omega (arith, low.0, below), ap (λ (n : ℕ). n == 1) (low.2 k below))
 
+-- the lowest that is set
+pub lowest_set : (x : ℕ) → x ≢ 0 → x < 2 ^ 64 → (trailing_zeros w64 x < 64) × (has_bit x (trailing_zeros w64 x) ≡ true)
+unfolding has_bit
+lowest_set x some fits =
+    let low = bit_at-trailing_zeros w64 x (omega (arith, some)) fits in
+    (omega (arith, low.0), ap (λ (n : ℕ). n == 1) low.1)
+
 pub set_here : (word k : ℕ) → k < 64 → has_bit (bit_or word (1 * 2 ^ k % 2 ^ 64)) k ≡ true
 unfolding has_bit
 set_here word k h = ap (λ (n : ℕ). n == 1) (bit_at_set_same w64 word k h)

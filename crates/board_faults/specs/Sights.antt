@@ -8,8 +8,6 @@ use Rattle.pin_nets.specs.declared.Pin.{Pin}
 use Rattle.board_plan.specs.Planned.{Member}
 use Rattle.board_faults.specs.declared.sight.NetSight.{NetSight}
 use Rattle.board_faults.specs.declared.sight.PortSight.{PortSight}
-use Rattle.board_faults.specs.declared.sight.Pair.{Pair}
-use Rattle.board_faults.specs.declared.sight.Pair.TheVariants.{Open, Short}
 use Rattle.board_faults.specs.declared.sight.Sights.{Sights}
 use Rattle.board_faults.specs.declared.together.Driven.{Driven}
 use Rattle.board_faults.specs.declared.kinds.Way.{Way}
@@ -48,11 +46,6 @@ makes_in tables pins = can_make (map (λ p. (sight_in tables p).can) pins)
 
 abbrev pub any_read_in : List (List PortSight) → List Pin → Bool
 any_read_in tables pins = list_any (λ p. (sight_in tables p).read) pins
-
--- what two groups of pins show
-abbrev pub pair_differs : Pair → (f g : Driven) → Bool
-pair_differs (Open pull bit pin rest) f g = open_differs pull bit pin rest f g
-pair_differs (Short winner one other first second) f g = short_differs winner one other first second f g
 
 -- whether a way shows, by what is kept
 abbrev pub shows_of : List (List PortSight) → (net other : Net) → Way → Bool

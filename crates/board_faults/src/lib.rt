@@ -28,5 +28,5 @@ pub use listed::{Faults, next_faults, ways_of};
 pub use nets::{joined, nets_with, pull_to, rest_pull, turned};
 pub use planes::{DrivenWords, bridge_words, differing};
 pub use play_direct::{Board, play_opening, play_program, play_step};
-pub use sight::{Sights, bridge_sees, is_invisible, pull_at, sights_of};
+pub use sight::{Sights, bridge_sees, bridge_shows, is_invisible, pull_at, sights_of};
 pub use together::{Driven, pulled};

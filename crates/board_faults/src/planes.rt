@@ -1,11 +1,12 @@
 //! What nets and bridges show at up to 64 captures at once, by words.
 
-ghost use Rattle.std.specs.Prelude.{◌≡◌, ◌<◌, ℕ, not};
+ghost use Rattle.std.specs.Prelude.{◌≡◌, ◌<◌, ℕ, true, false, not, if◌then◌else◌};
 ghost use Rattle.jt_bits.specs.Packed.{has_bit};
 ghost use Rattle.board_faults.specs.Together as together;
 ghost use Rattle.board_faults.specs.Planes.{driven_at, led};
 
 use crate::kinds::Winner;
+use crate::together::Table;
 use pin_nets::Pull;
 
 /// What pins drive together at up to 64 captures: bit `k` of each word says it of the k-th.
@@ -21,6 +22,20 @@ const NOTHING: DrivenWords = DrivenWords {
     zero: 0,
     one: 0,
     weak: 0,
+};
+
+/// What the first of two nets makes in each of the 64 pairs of the eight: in the k-th the one at place k / 8.
+pub(crate) const FIRST_OF_PAIRS: DrivenWords = DrivenWords {
+    zero: 0xff00_ff00_ff00_ff00,
+    one: 0xffff_0000_ffff_0000,
+    weak: 0xffff_ffff_0000_0000,
+};
+
+/// What the second makes there: the one at place k % 8.
+pub(crate) const SECOND_OF_PAIRS: DrivenWords = DrivenWords {
+    zero: 0xaaaa_aaaa_aaaa_aaaa,
+    one: 0xcccc_cccc_cccc_cccc,
+    weak: 0xf0f0_f0f0_f0f0_f0f0,
 };
 
 impl DrivenWords {
@@ -68,8 +83,22 @@ pub fn bridge_words(winner: Winner, pull: Pull, f: DrivenWords, g: DrivenWords) 
     ensures { (k : ℕ) → k < 64 → has_bit result k ≡ together.bridge_sees winner pull (driven_at f k) (driven_at g k) }
 {
     let all = pulled(pull).together(f.together(g));
-    let opposed = all.zero & all.one;
-    (opposed & led(winner, f, g)) | (invert(opposed) & all.sees())
+    chosen(all.zero & all.one, led(winner, f, g), all.sees())
+}
+
+/// The bits of one word where they are chosen, else those of another.
+fn chosen(where_set: u64, word: u64, other: u64) -> u64
+    ensures { (k : ℕ) → k < 64
+        → has_bit result k ≡ (if has_bit where_set k then has_bit word k else has_bit other k) }
+{
+    (where_set & word) | (invert(where_set) & other)
+}
+
+/// A word of which every bit is this one.
+pub(crate) fn same_bits(bit: bool) -> u64
+    ensures { (k : ℕ) → k < 64 → has_bit result k ≡ bit }
+{
+    if bit { u64::MAX } else { 0 }
 }
 
 /// What ports see of it where its strong drivers are opposed.
@@ -91,4 +120,36 @@ pub fn differing(pull: Pull, made: DrivenWords, after: u64) -> u64
         (has_bit after k) }
 {
     pulled(pull).together(made).sees() ^ after
+}
+
+/// At which captures pins can make what a word says that is driven, by the table of what they can.
+pub(crate) fn can_make(table: Table, made: DrivenWords) -> u64
+    ensures { (k : ℕ) → k < 64 → has_bit result k ≡ together.at_driven table (driven_at made k) }
+{
+    chosen(
+        made.weak,
+        by_strong(made, table.weak, table.weak_zero, table.weak_one, table.all),
+        by_strong(made, table.nothing, table.zero, table.one, table.both),
+    )
+}
+
+/// One of four at each capture: by whether a strong 0 and a strong 1 are driven.
+fn by_strong(made: DrivenWords, neither: bool, zero: bool, one: bool, both: bool) -> u64
+    ensures { (k : ℕ) → k < 64 → has_bit result k
+        ≡ (if has_bit made.one k then (if has_bit made.zero k then both else one)
+        else (if has_bit made.zero k then zero else neither)) }
+{
+    chosen(
+        made.one,
+        chosen(made.zero, same_bits(both), same_bits(one)),
+        chosen(made.zero, same_bits(zero), same_bits(neither)),
+    )
+}
+
+/// Whether a bit of a word is set.
+pub(crate) fn is_any_set(word: u64) -> bool
+    ensures none { result ≡ false → (k : ℕ) → k < 64 → has_bit word k ≡ false }
+    ensures some { result ≡ true → (k : ℕ) × (k < 64) × (has_bit word k ≡ true) }
+{
+    word != 0
 }

@@ -10,13 +10,16 @@ ghost use Rattle.board_faults.specs.Faults.{IsWayOf, nowhere};
 ghost use Rattle.board_faults.specs.declared.kinds.Way.TheVariants as way;
 ghost use Rattle.board_faults.specs.Sight.{IsInvisible, MayHaveFaults, drives_by, drives_of};
 ghost use Rattle.board_faults.specs.Sights.{AreRead, AreSights, Marks, all_sights, any_read_in, makes_in, net_sight};
-ghost use Rattle.board_faults.specs.Sights.{net_unseen, pair_differs, shows_by, sight_in, sights_of};
+ghost use Rattle.board_faults.specs.Sights.{net_unseen, shows_by, sight_in, sights_of};
 ghost use Rattle.board_faults.specs.Together as spec;
-ghost use Rattle.board_faults.specs.Together.{all_driven, at_driven, open_differs, pull_differs};
+ghost use Rattle.board_faults.specs.Together.{all_driven, at_driven, open_differs, pull_differs, short_differs};
 ghost use Rattle.board_faults.specs.Together.{some_pair, some_single, stuck_differs, table};
 
 use crate::kinds::{Way, Winner};
 use crate::nets::{joined, pull_to, rest_pull, turned};
+use crate::planes::{
+    FIRST_OF_PAIRS, SECOND_OF_PAIRS, bridge_words, can_make, differing, is_any_set, same_bits,
+};
 use crate::together::{ALL, Driven, NO_PINS, NOTHING, Table, pulled, with_pin};
 use board_plan::{PlannedDevice, PlannedNet};
 use boundary::{drivers, sighted_port};
@@ -221,7 +224,7 @@ fn shows(alloc: Global, sights: &Sights, nets: &[PlannedNet], way: Way) -> Resul
             first,
             second,
             winner,
-        } => Ok(short_shows(sights, nets, first, second, winner)),
+        } => Ok(bridge_shows(sights, nets, first, second, winner)),
     }
 }
 
@@ -253,7 +256,8 @@ pub fn pull_at(nets: &[PlannedNet], net: usize) -> Pull
     }
 }
 
-fn short_shows(
+/// Whether a bridge of two nets shows to some program where this one wins, given what is seen of their board.
+pub fn bridge_shows(
     sights: &Sights,
     nets: &[PlannedNet],
     first: usize,
@@ -264,28 +268,25 @@ fn short_shows(
 {
     let one = seen_at(sights, first);
     let other = seen_at(sights, second);
-    let pair = Pair::Short {
+    pairs_show(winner, pull_at(nets, first), pull_at(nets, second), one, other)
+}
+
+/// Whether some pair of what the pins of two nets with these pulls can make is seen otherwise with a bridge of them, by a
+/// pin that is read: bit `k` of each word is of the k-th pair.
+fn pairs_show(winner: Winner, pull: Pull, other_pull: Pull, one: NetSight, other: NetSight) -> bool
+    ensures { result ≡ spec.some_pair (at_driven one.can) (at_driven other.can)
+        (short_differs winner pull other_pull one.read other.read) }
+{
+    let after = bridge_words(
         winner,
-        one: pull_at(nets, first),
-        other: pull_at(nets, second),
-        first: one.read,
-        second: other.read,
-    };
-    shows_if_read(one, other, pair)
-}
-
-/// Whether one of two nets is read, and some of what their pins can make is seen otherwise.
-fn shows_if_read(one: NetSight, other: NetSight, pair: Pair) -> bool
-    ensures { result ≡ ((one.read || other.read)
-        && spec.some_pair (at_driven one.can) (at_driven other.can) (pair_differs pair)) }
-{
-    is_either_read(one, other) && some_pair(one.can, other.can, pair)
-}
-
-fn is_either_read(one: NetSight, other: NetSight) -> bool
-    ensures { result ≡ (one.read || other.read) }
-{
-    one.read || other.read
+        joined(pull, other_pull),
+        FIRST_OF_PAIRS,
+        SECOND_OF_PAIRS,
+    );
+    let first = same_bits(one.read) & differing(pull, FIRST_OF_PAIRS, after);
+    let second = same_bits(other.read) & differing(other_pull, SECOND_OF_PAIRS, after);
+    let can = can_make(one.can, FIRST_OF_PAIRS) & can_make(other.can, SECOND_OF_PAIRS);
+    is_any_set(can & (first | second))
 }
 
 fn open_shows(
@@ -306,13 +307,13 @@ fn open_shows(
     let mut rest = net.pins.to_vec(alloc)?;
     let mut alone = Vec::with_capacity(alloc, 1)?;
     alone.push(rest.remove(pin))?;
-    let pair = Pair::Open {
+    let joint = OpenJoint {
         pull: net.pull,
         bit,
         pin: is_any_read(sights, &alone),
         rest: is_any_read(sights, &rest),
     };
-    Ok(some_pair(table_of(sights, &alone), table_of(sights, &rest), pair))
+    Ok(some_pair(table_of(sights, &alone), table_of(sights, &rest), joint))
 }
 
 // ---- groups of pins
@@ -355,22 +356,13 @@ fn is_any_read(sights: &[Vec<PortSight>], pins: &[Pin]) -> bool
 
 // ---- what is seen otherwise
 
-/// What is seen otherwise where two groups of pins make something.
+/// An open joint: the pull of its net, the bit to which its pin floats, and whether its pin is read, and one of the rest.
 #[derive(Drop, Clone, Copy)]
-pub(crate) enum Pair {
-    Open {
-        pull: Pull,
-        bit: bool,
-        pin: bool,
-        rest: bool,
-    },
-    Short {
-        winner: Winner,
-        one: Pull,
-        other: Pull,
-        first: bool,
-        second: bool,
-    },
+pub(crate) struct OpenJoint {
+    pull: Pull,
+    bit: bool,
+    pin: bool,
+    rest: bool,
 }
 
 /// Whether some of what pins can make is seen otherwise with the other pull.
@@ -389,43 +381,21 @@ fn some_stuck(table: Table, pull: Pull, bit: bool, read: bool) -> bool
         .any(|f| table.can(*f) && stuck_differs(pull, bit, read, *f))
 }
 
-/// Whether some of what two groups can make is seen otherwise.
-fn some_pair(one: Table, other: Table, pair: Pair) -> bool
-    ensures { result ≡ spec.some_pair (at_driven one) (at_driven other) (pair_differs pair) }
+/// Whether some of what the pin of an open joint and the rest of its net can make is seen otherwise.
+fn some_pair(pin: Table, rest: Table, joint: OpenJoint) -> bool
+    ensures { result ≡ spec.some_pair (at_driven pin) (at_driven rest)
+        (open_differs joint.pull joint.bit joint.pin joint.rest) }
 {
     ALL.iter()
-        .any(|f| one.can(*f) && some_second(other, pair, *f))
+        .any(|f| pin.can(*f) && some_second(rest, joint, *f))
 }
 
-fn some_second(other: Table, pair: Pair, f: Driven) -> bool
-    ensures { result ≡ list_any (λ g. at_driven other g && pair_differs pair f g) all_driven }
+fn some_second(rest: Table, joint: OpenJoint, f: Driven) -> bool
+    ensures { result ≡ list_any
+        (λ g. at_driven rest g && open_differs joint.pull joint.bit joint.pin joint.rest f g) all_driven }
 {
     ALL.iter()
-        .any(|g| other.can(*g) && pair_differs(pair, f, *g))
-}
-
-fn pair_differs(pair: Pair, f: Driven, g: Driven) -> bool
-    ensures { result ≡ pair_differs pair f g }
-{
-    match pair {
-        Pair::Open {
-            pull,
-            bit,
-            pin,
-            rest,
-        } => open_differs(pull, bit, pin, rest, f, g),
-        Pair::Short {
-            winner,
-            one,
-            other,
-            first,
-            second,
-        } => {
-            let after = bridge_sees(winner, joined(one, other), f, g);
-            (first && pulled(one).together(f).sees() != after)
-                || (second && pulled(other).together(g).sees() != after)
-        }
-    }
+        .any(|g| rest.can(*g) && open_differs(joint, f, *g))
 }
 
 fn pull_differs(pull: Pull, read: bool, f: Driven) -> bool
@@ -440,12 +410,12 @@ fn stuck_differs(pull: Pull, bit: bool, read: bool, f: Driven) -> bool
     read && pulled(pull).together(f).sees() != bit
 }
 
-fn open_differs(pull: Pull, bit: bool, pin: bool, rest: bool, f: Driven, g: Driven) -> bool
-    ensures { result ≡ spec.open_differs pull bit pin rest f g }
+fn open_differs(joint: OpenJoint, f: Driven, g: Driven) -> bool
+    ensures { result ≡ open_differs joint.pull joint.bit joint.pin joint.rest f g }
 {
-    let before = pulled(pull).together(f.together(g)).sees();
-    (pin && before != pulled(pull_to(bit)).together(f).sees())
-        || (rest && before != pulled(rest_pull(bit, pull)).together(g).sees())
+    let before = pulled(joint.pull).together(f.together(g)).sees();
+    (joint.pin && before != pulled(pull_to(joint.bit)).together(f).sees())
+        || (joint.rest && before != pulled(rest_pull(joint.bit, joint.pull)).together(g).sees())
 }
 
 /// What ports see of a bridge with this pull whose nets' pins drive these.

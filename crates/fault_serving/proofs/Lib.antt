@@ -1,4 +1,3 @@
-pub mod Lowest
 pub mod OnePlay
 pub mod Plain
 pub mod Putting

@@ -1,42 +1,53 @@
--- Bridges that the first captures of a play tell to be caught in each of their ways.
-use Rattle.std.proofs.Common.{◌≡◌, ◌<◌, ◌+◌, ⊎_elim, inl, inr, ℕ, Bool, true, false, List, [], ◌∷◌, ◌++◌, length, map, get_or, slice_get, Option, Some, None, refl, sym, ap, subst, ◌∙◌, arith}
+-- Bridges that the first captures of a play judge, and the other faults.
+use Rattle.std.proofs.Common.{◌≡◌, ◌<◌, ◌≤◌, ◌+◌, ⊎_elim, inl, inr, ℕ, Bool, true, false, not, ◌&&◌, ◌||◌, List, [], ◌∷◌, ◌++◌, length, map, drop, get_or, slice_get, slice_index_or, Option, Some, None, refl, sym, ap, ap₂, subst, ◌∙◌, arith}
 use Rattle.std.specs.Prelude.{is_some}
-use Rattle.std.specs.List.{AllByRecursion}
-use Rattle.std.proofs.lemmas.Bool.{cases_lt}
-use Rattle.std.proofs.lemmas.List.{append-nil}
+use Rattle.std.specs.List.{AllByRecursion, list_any}
+use Rattle.std.proofs.lemmas.Bool.{cases_lt, false≢true, not-true}
+use Rattle.std.proofs.lemmas.List.{append-nil, drop_all, length-map}
 use Rattle.std.proofs.lemmas.Option.{slice_get-get_or}
 use Rattle.svf_programs.specs.Legal.{IsLegalProgram}
 use Rattle.svf_programs.specs.Steps.{Program}
 use Rattle.pin_nets.specs.Wired.{Net}
 use Rattle.board_plan.specs.Planned.{Wiring}
 use Rattle.play_model.specs.declared.ending.Ending.{Ending}
-use Rattle.play_model.specs.declared.ending.Ending.TheVariants.{Fail}
+use Rattle.play_model.specs.declared.ending.Ending.TheVariants.{Fail, Pass}
 use Rattle.board_faults.specs.declared.kinds.Fault.{Fault}
 use Rattle.board_faults.specs.declared.kinds.Fault.TheVariants as fault
 use Rattle.board_faults.specs.declared.kinds.Way.{Way}
 use Rattle.board_faults.specs.declared.kinds.Way.TheVariants as way
 use Rattle.board_faults.specs.declared.kinds.Winner.{Winner}
 use Rattle.board_faults.specs.declared.kinds.Winner.TheVariants.{Zeros, Ones, First, Second}
-use Rattle.board_faults.specs.Faults.{IsFaultOf, IsWayOf, ways}
+use Rattle.board_faults.specs.declared.sight.Sights.{Sights}
+use Rattle.board_faults.specs.Faults.{IsFaultOf, IsWayOf, winners}
 use Rattle.board_faults.specs.Faulty.{CanBeJudged}
+use Rattle.board_faults.specs.Sights.{AreSights, shows_by}
+use Rattle.board_faults.proofs.JudgingLaws.{may_have}
+use Rattle.board_faults.proofs.Kept.{kept_by, kept_shows, not_shown}
 use Rattle.fault_events.specs.declared.differing.Pulls.{Pulls}
 use Rattle.fault_events.specs.Captures.{Noted, captures}
 use Rattle.fault_events.specs.Endings.{and_then, ending_noted}
 use Rattle.fault_events.specs.Marks.{nothing_noted}
 use Rattle.fault_events.specs.Blocks.{noted_in}
-use Rattle.fault_events.specs.Nets.{ending_by_nets, note_at, with_nets_noted}
+use Rattle.fault_events.specs.Nets.{ending_by_nets, note_at, seen, with_nets_noted}
 use Rattle.fault_events.specs.Notes.{earlier, some_if}
 use Rattle.fault_events.specs.Pulls.{first_by, pulls_of}
 use Rattle.fault_events.proofs.ByNets.{by_nets}
 use Rattle.fault_events.proofs.Cuts.{captures_may_be_cut}
+use Rattle.fault_serving.specs.declared.planing.Failing.{Failing}
 use Rattle.fault_serving.specs.declared.planing.NoteWords.{NoteWords}
 use Rattle.fault_serving.specs.declared.serving.Serving.{Serving}
 use Rattle.fault_serving.specs.declared.serving.Serving.TheVariants.{Nothing, Whole, Blocks}
-use Rattle.fault_serving.specs.Caught.{AreSifted, Fails, IsCaught, IsCaughtBy, IsToldToFail}
-use Rattle.fault_serving.specs.Planes.{AreNetWords, AreWordsOf, IsFailing, tells}
-use Rattle.fault_serving.specs.Serving.{AreFirst, MayServe, Serves, first_words}
-use Rattle.fault_serving.proofs.OnePlay.{told_of}
-use Rattle.fault_serving.proofs.Quiet.{fails_there, words_fail, words_tell}
+use Rattle.fault_serving.specs.declared.sifting.Counting.{Counting}
+use Rattle.fault_serving.specs.declared.sifting.Counting.TheVariants as counting
+use Rattle.fault_serving.specs.declared.sifting.Counts.{Counts}
+use Rattle.fault_serving.specs.declared.sifting.Outcome.{Outcome}
+use Rattle.fault_serving.specs.declared.sifting.Outcome.TheVariants.{Caught, Missed, Invisible}
+use Rattle.fault_serving.specs.declared.sifting.Sieve.{Sieve}
+use Rattle.fault_serving.specs.Planes.{AreNetWords, AreQuiet, AreWordsOf, IsFailing, IsQuiet, IsToldAs, failing_at, no_words, tells}
+use Rattle.fault_serving.specs.Serving.{IsFew, IsToldOf, MayServe, Serves, first_words}
+use Rattle.fault_serving.specs.Sifting.{AreCounted, AreSifted, ComesBy, ComesTo, Fails, IsSieve, IsToldBy, IsToldToFail, Sifts, WayComesBy, WayComesTo, both_come, four_come, may_count, nets_of, no_counts, one_more, outcome_by}
+use Rattle.fault_serving.proofs.OnePlay.{split_all, told_of}
+use Rattle.fault_serving.proofs.Quiet.{fails_there, passed_over, words_fail, words_tell}
 
 -- ---- what words tell
 
@@ -78,51 +89,163 @@ module _ (nets : List Net) (first second : ℕ) (winner : Winner) (ns : List Not
         let early : k < 64 = omega (arith, below, fails.early) in
         sym (words_tell first second winner p k (note_at first x.notes) (note_at second x.notes) one two (of.noted k x early at) (of'.noted k x early at)) ∙ fails.before k below)))
 
+  module _ (of : AreWordsOf first noted one) (of' : AreWordsOf second noted two) (p : Pulls) (quiet : IsQuiet winner p one two) where
+    are-quiet : p ≡ pulls_of nets bridge → AreQuiet nets bridge noted 64
+    are-quiet same k n below at =
+        ap (λ (q : Pulls). tells bridge q (note_at first n.notes) (note_at second n.notes)) (sym same)
+        ∙ sym (words_tell first second winner p k (note_at first n.notes) (note_at second n.notes) one two (of.noted k n below at) (of'.noted k n below at))
+        ∙ quiet k below
+
+    -- nothing is told at any capture, where they are few
+    pub by_quiet : p ≡ pulls_of nets bridge → length ns ≤ 64 → ending_noted nets bridge ns ≡ Some Pass
+    by_quiet same few =
+        let none : drop 64 noted ≡ [] = drop_all 64 noted (omega (arith, few, length-map ns (with_nets_noted nets))) in
+        sym (by_nets nets bridge tt ns) ∙ passed_over nets first second winner 64 noted (are-quiet same)
+        ∙ ap (λ (l : List Noted). ending_by_nets bridge (pulls_of nets bridge) first second l) none
+
+-- what words tell of a bridge, as its captures do
+pub told_by : (s : Sieve) (ns : List Noted) (first second : ℕ) (p : Pulls) → IsSieve ns s → first < length s.words.now → second < length s.words.now
+    → p ≡ pulls_of (nets_of s) (way.Short first second Zeros) → (winner : Winner) (fails : Bool)
+    → IsToldAs s.whole fails winner p (slice_index_or s.words.now first no_words) (slice_index_or s.words.now second no_words)
+    → IsToldBy s ns fails (way.Short first second winner)
+told_by s ns first second p is inside inside' same winner true told =
+    by_words (nets_of s) first second winner ns (slice_index_or s.words.now first no_words) (slice_index_or s.words.now second no_words)
+    (is.words first inside) (is.words second inside') p told same
+told_by s ns first second p is inside inside' same winner false told = (
+  told.0,
+  by_quiet (nets_of s) first second winner ns (slice_index_or s.words.now first no_words) (slice_index_or s.words.now second no_words)
+      (is.words first inside) (is.words second inside') p told.1 same (is.few told.0),
+)
+
+-- ---- what a bridge comes to
+
+-- of four that may win
+pub each_winner : (P : Winner → Type 0) → P Zeros → P Ones → P First → P Second → (winner : Winner) → P winner
+each_winner P zeros ones first second Zeros = zeros
+each_winner P zeros ones first second Ones = ones
+each_winner P zeros ones first second First = first
+each_winner P zeros ones first second Second = second
+
+both-by : (m c m' c' : Bool) → both_come (outcome_by m c) (outcome_by m' c') ≡ outcome_by (m || m') (c || c')
+both-by true c m' c' = refl
+both-by false true true c' = refl
+both-by false true false true = refl
+both-by false true false false = refl
+both-by false false m' c' = refl
+
+or-false : (b : Bool) → b ≡ (b || false)
+or-false true = refl
+or-false false = refl
+
+four-by : (m c : Winner → Bool) → outcome_by (list_any m winners) (list_any c winners) ≡ four_come (λ winner. outcome_by (m winner) (c winner))
+four-by m c =
+    let last = ap (both_come (outcome_by (m First) (c First))) (ap₂ outcome_by (or-false (m Second)) (or-false (c Second))) in
+    sym (ap (λ (o : Outcome). both_come (outcome_by (m Zeros) (c Zeros)) (both_come (outcome_by (m Ones) (c Ones)) o))
+    (last ∙ both-by (m First) (c First) (m Second || false) (c Second || false))
+    ∙ ap (both_come (outcome_by (m Zeros) (c Zeros)))
+    (both-by (m Ones) (c Ones) (m First || (m Second || false)) (c First || (c Second || false)))
+    ∙ both-by (m Zeros) (c Zeros) (m Ones || (m First || (m Second || false))) (c Ones || (c First || (c Second || false))))
+
+-- of a way, by whether it fails and whether it shows
+comes-by : (s : Sieve) (ns : List Noted) (its_way : Way) (fails shows : Bool) → shows_by s.sights.now (nets_of s) its_way ≡ shows
+    → IsToldBy s ns fails its_way → WayComesBy s ns (outcome_by (not fails && shows) fails) its_way
+comes-by s ns its_way true shows e told = told
+comes-by s ns its_way false true e told = (told, e)
+comes-by s ns its_way false false e told = (told, e)
+
+pub bridge_comes : (s : Sieve) (ns : List Noted) (first second : ℕ) (f : Failing) (missed caught : Bool) (o : Outcome)
+    → ((winner : Winner) → IsToldBy s ns (failing_at f winner) (way.Short first second winner))
+    → missed ≡ list_any (λ winner. not (failing_at f winner) && shows_by s.sights.now (nets_of s) (way.Short first second winner)) winners
+    → caught ≡ list_any (failing_at f) winners → o ≡ outcome_by missed caught → ComesBy s ns o (fault.Short first second)
+bridge_comes s ns first second f missed caught o told is is' same =
+    let shows : Winner → Bool = λ winner. shows_by s.sights.now (nets_of s) (way.Short first second winner) in (
+      (λ winner. outcome_by (not (failing_at f winner) && shows winner) (failing_at f winner)),
+      (λ winner. comes-by s ns (way.Short first second winner) (failing_at f winner) (shows winner) refl (told winner)),
+      same ∙ ap₂ outcome_by is is' ∙ four-by (λ winner. not (failing_at f winner) && shows winner) (failing_at f),
+    )
+
 -- ---- so many are counted
 
-module _ (Is : Fault → Type 0) (f : Fault) where
-  pub one_kept : (fs kept : List Fault) (n : ℕ) → AreSifted Is fs kept n → AreSifted Is (fs ++ f ∷ []) (kept ++ f ∷ []) n
+pub none_are : (which : Counting) → AreCounted which no_counts
+none_are counting.Nothing = refl
+none_are counting.AllButMissed = refl
+none_are counting.Everything = tt
+
+pub more_are : (which : Counting) (o : Outcome) (c : Counts) → may_count which o ≡ true → AreCounted which c → AreCounted which (one_more o c)
+more_are counting.Nothing o c may are = absurd (false≢true may)
+more_are counting.AllButMissed Caught c may are = are
+more_are counting.AllButMissed Missed c may are = absurd (false≢true may)
+more_are counting.AllButMissed Invisible c may are = are
+more_are counting.Everything o c may are = tt
+
+turned : (a b : Outcome) (c : Counts) → one_more a (one_more b c) ≡ one_more b (one_more a c)
+turned Caught Caught c = refl
+turned Caught Missed c = refl
+turned Caught Invisible c = refl
+turned Missed Caught c = refl
+turned Missed Missed c = refl
+turned Missed Invisible c = refl
+turned Invisible Caught c = refl
+turned Invisible Missed c = refl
+turned Invisible Invisible c = refl
+
+module _ (Is : Outcome → Fault → Type 0) (f : Fault) where
+  pub one_kept : (fs kept : List Fault) (n : Counts) → AreSifted Is fs kept n → AreSifted Is (fs ++ f ∷ []) (kept ++ f ∷ []) n
   one_kept [] kept n are = inl ([], ap (λ (l : List Fault). l ++ f ∷ []) are.0, (refl, are.1))
   one_kept (x ∷ fs) kept n (inl it) = inl (it.0 ++ f ∷ [], ap (λ (l : List Fault). l ++ f ∷ []) it.1, one_kept fs it.0 n it.2)
-  one_kept (x ∷ fs) kept n (inr it) = inr (it.0, it.1, it.2, one_kept fs kept it.0 it.3)
+  one_kept (x ∷ fs) kept n (inr it) = inr (it.0, it.1, it.2, it.3, one_kept fs kept it.1 it.4)
 
-  pub one_counted : (fs kept : List Fault) (n : ℕ) → Is f → AreSifted Is fs kept n → AreSifted Is (fs ++ f ∷ []) kept (n + 1)
-  one_counted [] kept n is are = inr (0, omega (arith, are.1), is, (are.0, refl))
-  one_counted (x ∷ fs) kept n is (inl it) = inl (it.0, it.1, one_counted fs it.0 n is it.2)
-  one_counted (x ∷ fs) kept n is (inr it) = inr (it.0 + 1, omega (arith, it.1), it.2, one_counted fs kept it.0 is it.3)
+  pub one_counted : (o : Outcome) (fs kept : List Fault) (n : Counts) → Is o f → AreSifted Is fs kept n
+      → AreSifted Is (fs ++ f ∷ []) kept (one_more o n)
+  one_counted o [] kept n is are = inr (o, no_counts, ap (one_more o) are.1, is, (are.0, refl))
+  one_counted o (x ∷ fs) kept n is (inl it) = inl (it.0, it.1, one_counted o fs it.0 n is it.2)
+  one_counted o (x ∷ fs) kept n is (inr it) =
+      inr (it.0, one_more o it.1, ap (one_more o) it.2 ∙ turned o it.0 it.1, it.3, one_counted o fs kept it.1 is it.4)
 
-pub sifted_as : (P Is Is' : Fault → Type 0) → ((f : Fault) → P f → Is f → Is' f) → (fs kept : List Fault) (n : ℕ) → AllByRecursion P fs → AreSifted Is fs kept n
-    → AreSifted Is' fs kept n
+sifted_as : (P : Fault → Type 0) (Is Is' : Outcome → Fault → Type 0) → ((o : Outcome) (f : Fault) → P f → Is o f → Is' o f) → (fs kept : List Fault) (n : Counts)
+    → AllByRecursion P fs → AreSifted Is fs kept n → AreSifted Is' fs kept n
 sifted_as P Is Is' so [] kept n all are = are
 sifted_as P Is Is' so (f ∷ fs) kept n all (inl it) = inl (it.0, it.1, sifted_as P Is Is' so fs it.0 n all.1 it.2)
-sifted_as P Is Is' so (f ∷ fs) kept n all (inr it) = inr (it.0, it.1, so f all.0 it.2, sifted_as P Is Is' so fs kept it.0 all.1 it.3)
+sifted_as P Is Is' so (f ∷ fs) kept n all (inr it) =
+    inr (it.0, it.1, it.2, so it.0 f all.0 it.3, sifted_as P Is Is' so fs kept it.1 all.1 it.4)
 
-pub kept_all : (P Is : Fault → Type 0) (fs kept : List Fault) (n : ℕ) → AllByRecursion P fs → AreSifted Is fs kept n → AllByRecursion P kept
+kept_all : (P : Fault → Type 0) (Is : Outcome → Fault → Type 0) (fs kept : List Fault) (n : Counts) → AllByRecursion P fs → AreSifted Is fs kept n
+    → AllByRecursion P kept
 kept_all P Is [] kept n all are = subst (AllByRecursion P) (sym are.0) tt
 kept_all P Is (f ∷ fs) kept n all (inl it) = subst (AllByRecursion P) (sym it.1) (all.0, kept_all P Is fs it.0 n all.1 it.2)
-kept_all P Is (f ∷ fs) kept n all (inr it) = kept_all P Is fs kept it.0 all.1 it.3
+kept_all P Is (f ∷ fs) kept n all (inr it) = kept_all P Is fs kept it.1 all.1 it.4
+
+some_more : (o : Outcome) (c : Counts) → one_more o c ≡ no_counts → ⊥
+some_more Caught c e = absurd (omega (arith, ap (λ (x : Counts). x.caught) e))
+some_more Missed c e = absurd (omega (arith, ap (λ (x : Counts). x.missed) e))
+some_more Invisible c e = absurd (omega (arith, ap (λ (x : Counts). x.invisible) e))
 
 -- none is counted: all are kept
-pub none_counted : (Is : Fault → Type 0) (fs : List Fault) → AreSifted Is fs fs 0
-none_counted Is [] = (refl, refl)
-none_counted Is (f ∷ fs) = inl (fs, refl, none_counted Is fs)
-
-pub all_kept : (Is : Fault → Type 0) (fs kept : List Fault) (n : ℕ) → AreSifted Is fs kept n → n ≡ 0 → fs ≡ kept
+pub all_kept : (Is : Outcome → Fault → Type 0) (fs kept : List Fault) (n : Counts) → AreSifted Is fs kept n → n ≡ no_counts → fs ≡ kept
 all_kept Is [] kept n are none = sym are.0
 all_kept Is (f ∷ fs) kept n (inl it) none = ap (λ (l : List Fault). f ∷ l) (all_kept Is fs it.0 n it.2 none) ∙ sym it.1
-all_kept Is (f ∷ fs) kept n (inr it) none = absurd (omega (arith, it.1, none))
+all_kept Is (f ∷ fs) kept n (inr it) none = absurd (some_more it.0 it.1 (sym it.2 ∙ none))
 
 -- some that are kept are some
-pub some_kept : (Is : Fault → Type 0) (fs kept : List Fault) (n : ℕ) → AreSifted Is fs kept n → (kept ≡ [] → ⊥) → fs ≡ [] → ⊥
+pub some_kept : (Is : Outcome → Fault → Type 0) (fs kept : List Fault) (n : Counts) → AreSifted Is fs kept n → (kept ≡ [] → ⊥) → fs ≡ [] → ⊥
 some_kept Is [] kept n are some e = some are.0
 some_kept Is (f ∷ fs) kept n are some e = absurd (cc)
 
--- ---- what is caught by the first captures is caught
+-- ---- what the first captures tell is so
 
 failing : (o rest : Option Ending) → Fails o → Fails (and_then o rest)
 failing o rest f = record { command = f.command; part = f.part; bit = f.bit; is = ap (λ (x : Option Ending). and_then x rest) f.is }
 
 module _ (program : Program) (legal : IsLegalProgram program.steps) (w : Wiring) (can : CanBeJudged w) where
+  -- some captures: what fails by them fails, and what passes does, where they are all
+  record AreFirst (ws : List NoteWords) (whole : Bool) : Type 0 where
+    pub ns : List Noted
+    pub words : AreNetWords (map (with_nets_noted w.nets) ns) ws
+    pub few : whole ≡ true → length ns ≤ 64
+    pub fails : (its_way : Way) → IsWayOf w.nets its_way → Fails (ending_noted w.nets its_way ns) → IsToldToFail program w its_way
+    pub passes : (its_way : Way) → IsWayOf w.nets its_way → whole ≡ true → ending_noted w.nets its_way ns ≡ Some Pass
+        → IsToldOf program w its_way (Some Pass)
+
   told-to-fail : Serves program w → (first rest : List Noted) → captures program w ≡ first ++ rest → (its_way : Way) → IsWayOf w.nets its_way
       → Fails (ending_noted w.nets its_way first) → IsToldToFail program w its_way
   told-to-fail serves first rest are its_way its fails =
@@ -134,38 +257,78 @@ module _ (program : Program) (legal : IsLegalProgram program.steps) (w : Wiring)
             (ap (ending_noted w.nets its_way) are ∙ captures_may_be_cut w.nets its_way first rest ∙ all.is);
       }
 
-  is-caught : Serves program w → (first rest : List Noted) → captures program w ≡ first ++ rest → (f : Fault) → IsFaultOf w.nets f
-      → IsCaughtBy w.nets first f → IsCaught program w f
-  is-caught serves first rest are (fault.Short a b) its by =
-      let told = told-to-fail serves first rest are in (
-        told (way.Short a b Zeros) its.0 by.0,
-        (told (way.Short a b Ones) its.1.0 by.1.0, (told (way.Short a b First) its.1.1.0 by.1.1.0, (told (way.Short a b Second) its.1.1.1.0 by.1.1.1.0, tt))),
-      )
-  is-caught serves first rest are (fault.Open a b) its by = absurd by
-  is-caught serves first rest are (fault.Pull a) its by = absurd by
-  is-caught serves first rest are (fault.Stuck a b) its by = absurd by
-
-  none-caught : (f : Fault) → IsCaughtBy w.nets [] f → IsCaught program w f
-  none-caught (fault.Short a b) by = let never = by.0.is in absurd (cc)
-  none-caught (fault.Open a b) by = absurd by
-  none-caught (fault.Pull a) by = absurd by
-  none-caught (fault.Stuck a b) by = absurd by
-
-  first-of : (s : Serving) → MayServe program w s → AreFirst program w (first_words s)
-  first-of Nothing may = record { first = []; rest = captures program w; are = refl; words = λ net h. absurd (omega (arith, h)) }
-  first-of (Whole t) may = record {
-    first = noted_in t.block;
-    rest = [];
-    are = sym may.2 ∙ sym (append-nil (noted_in t.block));
-    words = subst (λ (l : List Noted). AreNetWords l t.words.items) may.1.block.by_net may.1.words;
+  first-of : (s : Serving) → MayServe program w s → (whole : Bool) → (whole ≡ true → IsFew s) → AreFirst (first_words s) whole
+  first-of Nothing may whole few = record {
+    ns = [];
+    words = λ net h. absurd (omega (arith, h));
+    few = λ is. omega arith;
+    fails = λ its_way its f. let never = f.is in absurd (cc);
+    passes = λ its_way its is e. absurd (few is);
   }
-  first-of (Blocks words) may = may.1
+  first-of (Whole t) may whole few = record {
+    ns = noted_in t.block;
+    words = subst (λ (l : List Noted). AreNetWords l t.words.items) may.1.block.by_net may.1.words;
+    few = λ is. omega (arith, few is, ap (λ (l : List Noted). length l) may.1.block.by_net, length-map t.block.nets.items seen, length-map (noted_in t.block) (with_nets_noted w.nets));
+    fails = told-to-fail may.0 (noted_in t.block) [] (sym may.2 ∙ sym (append-nil (noted_in t.block)));
+    passes = λ its_way its is e. told_of program legal w can may.0 its_way its (Some Pass) (ap (ending_noted w.nets its_way) (sym may.2) ∙ e);
+  }
+  first-of (Blocks words) may whole few = record {
+    ns = may.1.first;
+    words = may.1.words;
+    few = λ is. absurd (few is);
+    fails = told-to-fail may.0 may.1.first may.1.rest may.1.are;
+    passes = λ its_way its is e. absurd (few is);
+  }
 
-  -- what one play tells by its first captures
-  pub told_first_words : (s : Serving) → MayServe program w s
-      → (ns : List Noted) × AreNetWords (map (with_nets_noted w.nets) ns) (first_words s) × ((f : Fault) → IsFaultOf w.nets f → IsCaughtBy w.nets ns f → IsCaught program w f)
-  told_first_words Nothing may = ([], (λ net h. absurd (omega (arith, h))), (λ f its by. none-caught f by))
-  told_first_words (Whole t) may =
-      let it = first-of (Whole t) may in (it.first, it.words, is-caught may.0 it.first it.rest it.are)
-  told_first_words (Blocks words) may =
-      let it = may.1 in (it.first, it.words, is-caught may.0 it.first it.rest it.are)
+  module _ (sights : Sights) (seen_of : AreSights w.members w.nets sights) (s : Sieve) (nets : nets_of s ≡ w.nets) (seen_by : s.sights.now ≡ sights) where
+    shown-by : (its_way : Way) (b : Bool) → shows_by s.sights.now (nets_of s) its_way ≡ b → shows_by sights w.nets its_way ≡ b
+    shown-by its_way b e = sym (ap₂ (λ (x : Sights) (ns : List Net). shows_by x ns its_way) seen_by nets) ∙ e
+
+    module _ (of : AreFirst s.words.now s.whole) where
+      passes-by : (its_way : Way) → IsWayOf w.nets its_way → IsToldBy s of.ns false its_way → IsToldOf program w its_way (Some Pass)
+      passes-by its_way its told = of.passes its_way its told.0 (ap (λ (ns : List Net). ending_noted ns its_way of.ns) (sym nets) ∙ told.1)
+
+      way-comes : (o : Outcome) (its_way : Way) → IsWayOf w.nets its_way → WayComesBy s of.ns o its_way → WayComesTo program w o its_way
+      way-comes Caught its_way its by =
+          of.fails its_way its (subst (λ (ns : List Net). Fails (ending_noted ns its_way of.ns)) nets by)
+      way-comes Missed its_way its by =
+          let b = shows_by sights w.nets its_way in
+          let decides = not_shown w its_way b (may_have w can) its (kept_by w.members w.nets sights seen_of its_way its ∙ kept_shows w.members w.nets its_way (may_have w can)) in
+          (passes-by its_way its by.0, λ unseen. false≢true (sym (not-true b (decides.1 unseen)) ∙ shown-by its_way true by.1))
+      way-comes Invisible its_way its by =
+          let b = shows_by sights w.nets its_way in
+          let decides = not_shown w its_way b (may_have w can) its (kept_by w.members w.nets sights seen_of its_way its ∙ kept_shows w.members w.nets its_way (may_have w can)) in
+          (passes-by its_way its by.0, decides.0 (ap not (shown-by its_way false by.1)))
+
+      comes : (o : Outcome) (f : Fault) → IsFaultOf w.nets f → ComesBy s of.ns o f → ComesTo program w o f
+      comes o (fault.Short a b) its by = (by.0, (λ winner. way-comes (by.0 winner) (way.Short a b winner) its.0 (by.1 winner)), by.2)
+      comes o (fault.Open a b) its by = absurd by
+      comes o (fault.Pull a) its by = absurd by
+      comes o (fault.Stuck a b) its by = absurd by
+
+    -- what is sifted by words is sifted by what one play tells
+    pub record AreTheirs (left kept : List Fault) (counts : Counts) (rest : List Fault) : Type 0 where
+      pub sifts : Sifts (ComesTo program w) left kept counts rest
+      pub theirs : AllByRecursion (IsFaultOf w.nets) kept
+      pub others : AllByRecursion (IsFaultOf w.nets) rest
+
+    pub sifted_told : (serving : Serving) → MayServe program w serving → s.words.now ≡ first_words serving → (s.whole ≡ true → IsFew serving)
+        → (left kept : List Fault) (counts : Counts) (rest : List Fault) → ((ns : List Noted) → IsSieve ns s → Sifts (ComesBy s ns) left kept counts rest)
+        → AllByRecursion (IsFaultOf w.nets) left → AreTheirs left kept counts rest
+    sifted_told serving may words few left kept counts rest sift all =
+        let of = subst (λ (ws : List NoteWords). AreFirst ws s.whole) (sym words) (first-of serving may s.whole few) in
+        let by = sift of.ns (record {
+          words = subst (λ (ns : List Net). AreNetWords (map (with_nets_noted ns) of.ns) s.words.now) (sym nets) of.words;
+          few = of.few;
+        }) in
+        let parts = split_all (IsFaultOf w.nets) by.first rest (subst (AllByRecursion (IsFaultOf w.nets)) by.are all) in
+        record {
+          sifts = record {
+            first = by.first;
+            are = by.are;
+            sifted = sifted_as (IsFaultOf w.nets) (ComesBy s of.ns) (ComesTo program w) (comes of) by.first kept counts parts.0 by.sifted;
+            over = by.over;
+          };
+          theirs = kept_all (IsFaultOf w.nets) (ComesBy s of.ns) by.first kept counts parts.0 by.sifted;
+          others = parts.1;
+        }

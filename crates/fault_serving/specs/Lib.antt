@@ -1,6 +1,6 @@
-pub mod Caught
 pub mod Planes
 pub mod Rows
 pub mod Serving
+pub mod Sifting
 pub mod Words
 pub mod Written

@@ -5,10 +5,12 @@ use Rattle.jt_bits.specs.Packed.{has_bit}
 use Rattle.board_faults.specs.declared.kinds.Way.{Way}
 use Rattle.board_faults.specs.Planes.{driven_at}
 use Rattle.board_faults.specs.declared.kinds.Winner.{Winner}
+use Rattle.board_faults.specs.declared.kinds.Winner.TheVariants.{Zeros, Ones, First, Second}
 use Rattle.pin_nets.specs.Wired.{Net}
 use Rattle.board_faults.specs.Together.{first_of, second_of, short_differs}
 use Rattle.fault_events.specs.declared.differing.Pulls.{Pulls}
 use Rattle.fault_events.specs.declared.notes.Note.{Note}
+use Rattle.fault_serving.specs.declared.planing.Failing.{Failing}
 use Rattle.fault_serving.specs.declared.planing.NoteWords.{NoteWords}
 use Rattle.fault_events.specs.Captures.{Noted}
 use Rattle.fault_events.specs.Marks.{nothing_noted}
@@ -63,6 +65,21 @@ pub record IsFailing (winner : Winner) (p : Pulls) (one two : NoteWords) : Type 
   pub early : at < 64
   pub fails : fails_at winner p one two at ≡ true
   pub before : (k : ℕ) → k < at → tells_at winner p one two k ≡ false
+
+-- nothing is told at any of the 64
+abbrev pub IsQuiet : Winner → Pulls → (one two : NoteWords) → Type 0
+IsQuiet winner p one two = (k : ℕ) → k < 64 → tells_at winner p one two k ≡ false
+
+-- a bridge fails where this one wins; or nothing is told, and the words have all captures
+abbrev pub IsToldAs : (whole fails : Bool) → Winner → Pulls → (one two : NoteWords) → Type 0
+IsToldAs whole true winner p one two = IsFailing winner p one two
+IsToldAs whole false winner p one two = (whole ≡ true) × IsQuiet winner p one two
+
+abbrev pub failing_at : Failing → Winner → Bool
+failing_at f Zeros = f.zeros
+failing_at f Ones = f.ones
+failing_at f First = f.first
+failing_at f Second = f.second
 
 -- the same by the notes of two nets, of any way
 abbrev pub tells : Way → Pulls → (one two : Note) → Bool

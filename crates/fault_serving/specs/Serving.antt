@@ -1,5 +1,6 @@
 -- What one play of a program tells of a board's faults.
-use Rattle.std.specs.Prelude.{⊤, ◌≡◌, Bool, true, false, List, [], ◌∷◌, ◌++◌, flat_map, map, Option, Some, None}
+use Rattle.std.specs.Prelude.{⊤, ◌≡◌, ◌≤◌, Bool, true, false, List, [], ◌∷◌, ◌++◌, flat_map, length, map}
+use Rattle.std.specs.Prelude.{Option, Some, None}
 use Rattle.std.specs.List.{AllByRecursion}
 use Rattle.svf_programs.specs.Steps.{Program}
 use Rattle.pin_nets.specs.Wired.{Net}
@@ -52,6 +53,12 @@ abbrev pub first_words : Serving → List NoteWords
 first_words Nothing = []
 first_words (Whole t) = t.words.items
 first_words (Blocks words) = words.items
+
+-- all captures of a play are kept, and they are so few that words have them all
+abbrev pub IsFew : Serving → Type 0
+IsFew Nothing = ⊥
+IsFew (Whole t) = length t.block.nets.items ≤ 64
+IsFew (Blocks words) = ⊥
 
 -- ---- how a program ends in ways
 

@@ -7,13 +7,14 @@ ghost use Rattle.fault_serving.specs.Rows.{ServingRows};
 
 mod planing;
 mod serving;
+mod sifting;
 mod words;
 
 pub use planing::NoteWords;
 pub use serving::{
-    Chunk, Serving, Sifted, Telling, ending_on, next_chunk, next_sifted, serving_of, told_at,
-    told_behind,
+    Chunk, Serving, Telling, ending_on, next_chunk, serving_of, told_at, told_behind,
 };
+pub use sifting::{Counting, Counts, Outcome, Sifted, next_sifted};
 pub use words::{put_fault, put_way};
 
 /// What a bridge tells, worked out.

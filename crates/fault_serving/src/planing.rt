@@ -1,6 +1,6 @@
 //! What is noted of nets, put into words: up to 64 captures at once.
 
-ghost use Rattle.std.specs.Prelude.{◌≡◌, ◌≢◌, ◌<◌, ◌≤◌, ℕ, List, true, false, drop, map, IfOk};
+ghost use Rattle.std.specs.Prelude.{◌≡◌, ◌≢◌, ◌<◌, ◌≤◌, ℕ, List, true, false, drop, map, IfOk, IfSome};
 ghost use Rattle.jt_bits.specs.Packed.{has_bit};
 ghost use Rattle.board_faults.specs.declared.kinds.Way.TheVariants as way;
 ghost use Rattle.board_faults.specs.declared.kinds.Winner.{Winner as TheWinner};
@@ -8,12 +8,11 @@ ghost use Rattle.board_plan.specs.View.{net as planned_net};
 ghost use Rattle.fault_events.specs.declared.notes.Note.{Note as TheNote};
 ghost use Rattle.fault_events.specs.Captures.{Noted};
 ghost use Rattle.fault_events.specs.Marks.{nothing_noted};
-ghost use Rattle.fault_events.specs.Nets.{seen, with_nets_noted};
-ghost use Rattle.fault_serving.specs.Caught.{IsCaughtBy};
-ghost use Rattle.fault_serving.specs.Planes.{AreNetWords, AreQuiet, AreWordsOf, IsFailing, IsNoteAt};
-ghost use Rattle.fault_serving.specs.Planes.{fails_at, stays_at, tells_at};
+ghost use Rattle.fault_events.specs.Nets.{seen};
+ghost use Rattle.fault_serving.specs.Planes.{AreNetWords, AreQuiet, AreWordsOf, IsFailing, IsNoteAt, IsQuiet};
+ghost use Rattle.fault_serving.specs.Planes.{IsToldAs, failing_at, fails_at, stays_at, tells_at};
 
-use board_faults::{DrivenWords, Fault, Winner, bridge_words, differing, joined};
+use board_faults::{DrivenWords, Winner, bridge_words, differing, joined};
 use board_plan::PlannedNet;
 use fault_events::{NetCapture, Note, Pulls, note_at, pulls_of};
 use std::alloc::{AllocError, Global};
@@ -156,33 +155,65 @@ fn lowest(word: u64) -> usize
     word.trailing_zeros() as usize
 }
 
-/// Whether the first captures of a play on these nets, by the words of nets, tell of each way of a fault that the
-/// program fails in it. It is answered of bridges alone: any other fault is to be judged way by way.
-pub(crate) fn is_caught(words: &[NoteWords], nets: &[PlannedNet], fault: Fault) -> bool
-    ensures { (ns : List Noted) → AreNetWords (map (with_nets_noted (map planned_net nets.now)) ns) words.now
-        → result ≡ true → IsCaughtBy (map planned_net nets.now) ns fault }
-{
-    let Fault::Short { first, second } = fault else {
-        return false;
-    };
-    if first < words.len() && second < words.len() {
-        let pulls = pulls_of(nets, first, second);
-        return fails_in_each(pulls, words[first], words[second]);
-    }
-    false
+/// Of each way of a bridge whether it fails; one that does not passes.
+#[derive(Drop, Clone, Copy)]
+pub(crate) struct Failing {
+    pub(crate) zeros: bool,
+    pub(crate) ones: bool,
+    pub(crate) first: bool,
+    pub(crate) second: bool,
 }
 
-/// Whether a bridge fails, whoever wins on it.
-fn fails_in_each(pulls: Pulls, one: NoteWords, two: NoteWords) -> bool
-    ensures { result ≡ true → (winner : TheWinner) → IsFailing winner pulls one two }
-{
-    if fails(Winner::Zeros, pulls, one, two)
-        && fails(Winner::Ones, pulls, one, two)
-        && fails(Winner::First, pulls, one, two)
+impl Failing {
+    /// Whether a way fails: the one in which this one wins.
+    pub(crate) fn at(self, winner: Winner) -> bool
+        ensures { result ≡ failing_at self winner }
     {
-        return fails(Winner::Second, pulls, one, two);
+        match winner {
+            Winner::Zeros => self.zeros,
+            Winner::Ones => self.ones,
+            Winner::First => self.first,
+            Winner::Second => self.second,
+        }
     }
-    false
+}
+
+/// Of each way of a bridge whether it fails, if words of its nets tell it: that one passes only where they are whole, and
+/// have all captures of the play.
+pub(crate) fn failing_ways(
+    whole: bool,
+    pulls: Pulls,
+    one: NoteWords,
+    two: NoteWords,
+) -> Option<Failing>
+    ensures { IfSome result
+        (λ f. (winner : TheWinner) → IsToldAs whole (failing_at f winner) winner pulls one two) }
+{
+    Some(Failing {
+        zeros: told_to_fail(whole, Winner::Zeros, pulls, one, two)?,
+        ones: told_to_fail(whole, Winner::Ones, pulls, one, two)?,
+        first: told_to_fail(whole, Winner::First, pulls, one, two)?,
+        second: told_to_fail(whole, Winner::Second, pulls, one, two)?,
+    })
+}
+
+/// Whether a bridge fails where this one wins, if the words of its nets tell it.
+fn told_to_fail(
+    whole: bool,
+    winner: Winner,
+    pulls: Pulls,
+    one: NoteWords,
+    two: NoteWords,
+) -> Option<bool>
+    ensures { IfSome result (λ fails. IsToldAs whole fails winner pulls one two) }
+{
+    if fails(winner, pulls, one, two) {
+        return Some(true);
+    }
+    if whole && is_quiet(winner, pulls, one, two) {
+        return Some(false);
+    }
+    None
 }
 
 /// Whether a wanted bit is another where this one wins, before any that stays is.
@@ -192,6 +223,13 @@ fn fails(winner: Winner, pulls: Pulls, one: NoteWords, two: NoteWords) -> bool
     let changes = changes_of(winner, pulls, one, two);
     let at = lowest(changes.wanted);
     at < 64 && at <= lowest(changes.stays)
+}
+
+/// Whether nothing is told where this one wins: no wanted bit is another, and none that stays.
+fn is_quiet(winner: Winner, pulls: Pulls, one: NoteWords, two: NoteWords) -> bool
+    ensures { result ≡ true → IsQuiet winner pulls one two }
+{
+    quiet_front(winner, pulls, one, two) == 64
 }
 
 /// Captures behind so many.

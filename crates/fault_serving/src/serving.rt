@@ -1,6 +1,6 @@
 //! What one play of a program tells of a board's faults.
 
-ghost use Rattle.std.specs.Prelude.{◌≡◌, ◌<◌, ◌+◌, [], List, drop, length, map, nat_lt, slice_index_or, None, IfOk};
+ghost use Rattle.std.specs.Prelude.{◌≡◌, ◌<◌, drop, length, map, nat_lt, slice_index_or, true, None, IfOk};
 ghost use Rattle.std.specs.List.{AllByRecursion, list_any};
 ghost use Rattle.svf_programs.specs.Sizes.{program_of};
 ghost use Rattle.board_plan.specs.View.{net as planned_net, wiring};
@@ -10,15 +10,12 @@ ghost use Rattle.board_faults.specs.Listing.{left_of};
 ghost use Rattle.board_faults.specs.Made.{IsReadyPlan, PowersUp, board_of};
 ghost use Rattle.fault_events.specs.Blocks.{noted_in};
 ghost use Rattle.fault_events.specs.Captures as events;
-ghost use Rattle.fault_events.specs.Captures.{Noted};
 ghost use Rattle.fault_events.specs.Endings.{and_then, ending_noted};
-ghost use Rattle.fault_events.specs.Nets.{with_nets_noted};
-ghost use Rattle.fault_serving.specs.Caught.{IsCaughtBy, IsSifted, Sifts};
-ghost use Rattle.fault_serving.specs.Planes.{AreNetWords};
 ghost use Rattle.fault_serving.specs.Serving as spec;
-ghost use Rattle.fault_serving.specs.Serving.{AreTold, IsChunk, IsTelling, MayServe, Serves, endings_by, judged_on};
+ghost use Rattle.fault_serving.specs.Serving.{AreTold, IsChunk, IsFew, IsTelling, MayServe, Serves};
+ghost use Rattle.fault_serving.specs.Serving.{endings_by, judged_on};
 
-use crate::planing::{NoteWords, captures_behind, is_caught, net_words, quiet_captures};
+use crate::planing::{NoteWords, captures_behind, net_words, quiet_captures};
 use board_faults::{Board, Fault, Faults, Way, next_faults, play_program, ways_of};
 use board_plan::{Plan, PlannedDevice, PlannedNet};
 use fault_events::{Block, Capture, block_of, net_ending, pulls_of, start_play, way_ending};
@@ -271,7 +268,7 @@ pub fn next_chunk(
 }
 
 /// So many faults at a time.
-fn most_of(serving: &Serving) -> usize
+pub(crate) fn most_of(serving: &Serving) -> usize
     ensures { 0 < result }
 {
     match serving {
@@ -280,49 +277,8 @@ fn most_of(serving: &Serving) -> usize
     }
 }
 
-/// Some faults of a board, one after another: so many bridges that are caught in each of their ways, and the others.
-#[derive(Drop)]
-pub struct Sifted {
-    pub caught: usize,
-    pub chunk: Chunk,
-}
-
-/// The next of the faults of a planned board that are left, as `next_chunk` has them, but for bridges: those that the
-/// first captures of the play tell to be caught in each of their ways are only counted. No other is there only where none
-/// is left. Refused where memory runs out, or where a count does not fit.
-pub fn next_sifted(
-    alloc: Global,
-    serving: &Serving,
-    plan: &Plan,
-    program: &Program,
-    left: &mut Faults<'_>,
-) -> Result<Sifted, AllocError>
-    requires ready { IsReadyPlan plan.now }
-    requires serving { MayServe (program_of program.now) (wiring plan.now) serving.now }
-    requires faults { AllByRecursion (IsFaultOf (wiring plan.now).nets) (left_of left.old) }
-    ensures { IfOk result (λ s. IsSifted (program_of program.now) (wiring plan.now) (left_of left.old) s
-        (left_of left.new)) }
-{
-    // For the proof alone: what the type keeps of a program's steps.
-    let _ = program.len();
-    let mut faults = Vec::new(alloc);
-    let caught = sift(
-        first_words(serving),
-        &plan.nets,
-        left,
-        most_of(serving),
-        &mut faults,
-    )?;
-    let ways = ways_of(alloc, &faults)?;
-    let endings = told_endings(alloc, serving, plan, program, &ways)?;
-    Ok(Sifted {
-        caught,
-        chunk: Chunk { faults, endings },
-    })
-}
-
 /// What is noted of nets at the first captures, by words; of no net where that tells nothing.
-fn first_words(serving: &Serving) -> &[NoteWords]
+pub(crate) fn first_words(serving: &Serving) -> &[NoteWords]
     ensures { result.now ≡ spec.first_words serving.now }
 {
     match serving {
@@ -332,40 +288,14 @@ fn first_words(serving: &Serving) -> &[NoteWords]
     }
 }
 
-/// Puts the next of the faults that are left behind none, so many or all of them, but counts the bridges that are caught
-/// by the words of nets. Refused where memory runs out, or where the count does not fit.
-fn sift(
-    words: &[NoteWords],
-    nets: &[PlannedNet],
-    left: &mut Faults<'_>,
-    most: usize,
-    kept: &mut Vec<Fault>,
-) -> Result<usize, AllocError>
-    requires some { 0 < most }
-    requires none { kept.old.items ≡ [] }
-    ensures { (ns : List Noted) → AreNetWords (map (with_nets_noted (map planned_net nets.now)) ns) words.now
-        → IfOk result (λ n. Sifts (IsCaughtBy (map planned_net nets.now) ns) (left_of left.old) kept.new.items n
-        (left_of left.new)) }
+/// Whether all captures of a play are kept, and so few that words have them all.
+pub(crate) fn is_few(serving: &Serving) -> bool
+    ensures { result ≡ true → IsFew serving.now }
 {
-    let mut caught = 0_usize;
-    'faults: while kept.len() < most {
-        let Some(fault) = left.next() else {
-            return Ok(caught);
-        };
-        if is_caught(words, nets, fault) {
-            caught = one_more(caught)?;
-        } else {
-            kept.push(fault)?;
-        }
+    match serving {
+        Serving::Whole(telling) => telling.block.captures().len() <= 64,
+        Serving::Nothing | Serving::Blocks(_) => false,
     }
-    Ok(caught)
-}
-
-/// Refused where that does not fit.
-fn one_more(count: usize) -> Result<usize, AllocError>
-    ensures { IfOk result (λ n. n ≡ count + 1) }
-{
-    count.checked_add(1).ok_or(AllocError)
 }
 
 /// What is told behind so many ways.

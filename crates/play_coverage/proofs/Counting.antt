@@ -30,13 +30,13 @@ module _ {X : Type 0} (most : ℕ) (ys : List X) where
       take_all most (ys ++ x ∷ []) (omega (arith, room, length-append ys (x ∷ [])))
       ∙ ap (λ (l : List X). l ++ x ∷ []) (sym (take_all most ys (omega (arith, room))))
 
-  full : (zs : List X) → most ≤ length (take most ys) → take most (ys ++ zs) ≡ take most ys
+  pub full : (zs : List X) → most ≤ length (take most ys) → take most (ys ++ zs) ≡ take most ys
   full zs h = take-append-le most ys zs (omega (arith, h, length-take most ys))
 
   below : (n : ℕ) → n ≡ length (take most ys) → nat_lt n most ≡ true → length (take most ys) < most
   below n is e = let it : n < most = grind (arith, nat_tests) in omega (arith, it, is)
 
-  past : (n : ℕ) → n ≡ length (take most ys) → nat_lt n most ≡ false → most ≤ length (take most ys)
+  pub past : (n : ℕ) → n ≡ length (take most ys) → nat_lt n most ≡ false → most ≤ length (take most ys)
   past n is e = let it : most ≤ n = grind (arith, nat_tests) in omega (arith, it, is)
 
   with_one : (x : X) (n : ℕ) → n ≡ length (take most ys) → (room passes : Bool) → nat_lt n most ≡ room

@@ -1,4 +1,4 @@
-pub mod Caught
+pub mod Counted
 pub mod Marks
 pub mod Counting
 pub mod Tallying

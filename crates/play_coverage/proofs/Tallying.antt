@@ -4,11 +4,11 @@ use Rattle.std.specs.Prelude.{flat_map, if◌then◌else◌, OnOk, Result, Ok, E
 use Rattle.output_words.specs.declared.status.Status.TheVariants as exits
 use Rattle.board_plan.specs.Planned.{Wiring}
 use Rattle.board_faults.specs.declared.judging.Judged.{Judged}
+use Rattle.fault_serving.specs.declared.sifting.Counts.{Counts}
+use Rattle.fault_serving.specs.declared.sifting.Outcome.TheVariants.{Caught, Missed, Invisible}
 use Rattle.play_coverage.specs.declared.contending.Contention.{Contention}
 use Rattle.play_coverage.specs.declared.outcomes.FaultKind.{FaultKind}
 use Rattle.play_coverage.specs.declared.outcomes.FaultKind.TheVariants as kind
-use Rattle.play_coverage.specs.declared.outcomes.Outcome.TheVariants.{Caught, Missed, Invisible}
-use Rattle.play_coverage.specs.declared.tallies.Counts.{Counts}
 use Rattle.play_coverage.specs.declared.tallies.Tally.{Tally}
 use Rattle.play_coverage.specs.Lines.{count_line, cover_lines, cover_status, contention_line, fault_lines, has_come, is_counted, is_loop, loops_line, missed_line, most_told, told_lines, totals}
 use Rattle.play_coverage.specs.Tallies.{IsTally, counts, counts_line, counts_with, first_missed, is_told, line_told, next_told, one_if, status_by}

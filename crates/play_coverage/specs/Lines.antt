@@ -19,12 +19,12 @@ use Rattle.board_faults.specs.declared.kinds.Fault.{Fault}
 use Rattle.board_faults.specs.declared.kinds.Fault.TheVariants as fault
 use Rattle.board_faults.specs.declared.kinds.Way.TheVariants as way
 use Rattle.board_faults.specs.Judging.{ways_of}
+use Rattle.fault_serving.specs.declared.sifting.Outcome.TheVariants as outcome
+use Rattle.fault_serving.specs.declared.sifting.Outcome.{Outcome}
 use Rattle.fault_serving.specs.Words.{fault_words, way_words}
 use Rattle.play_coverage.specs.declared.contending.Contention.{Contention}
 use Rattle.play_coverage.specs.declared.outcomes.FaultKind.{FaultKind}
 use Rattle.play_coverage.specs.declared.outcomes.FaultKind.TheVariants as kind
-use Rattle.play_coverage.specs.declared.outcomes.Outcome.{Outcome}
-use Rattle.play_coverage.specs.declared.outcomes.Outcome.TheVariants as outcome
 
 -- ---- a way
 

@@ -11,8 +11,8 @@ use Rattle.board_faults.specs.declared.kinds.Way.TheVariants as way
 use Rattle.board_faults.specs.declared.kinds.Winner.TheVariants.{Zeros, Ones, First, Second}
 use Rattle.board_faults.specs.Rows.{nets}
 use Rattle.output_words.specs.declared.status.Status.TheVariants as exits
+use Rattle.fault_serving.specs.declared.sifting.Outcome.TheVariants as outcome
 use Rattle.fault_serving.specs.Rows.{board}
-use Rattle.play_coverage.specs.declared.outcomes.Outcome.TheVariants as outcome
 use Rattle.play_coverage.specs.Contending.{either, newly}
 use Rattle.play_coverage.specs.Lines.{comes_to, contention_words, loops_line, missed_ways, way_line}
 use Rattle.play_coverage.specs.Tallies.{status_by}

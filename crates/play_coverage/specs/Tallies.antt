@@ -10,11 +10,13 @@ use Rattle.board_plan.specs.Planned.{Wiring}
 use Rattle.board_faults.specs.declared.judging.Judged.{Judged}
 use Rattle.board_faults.specs.declared.kinds.Fault.{Fault}
 use Rattle.board_faults.specs.Judging.{JudgesAll, JudgesBoard}
+use Rattle.fault_serving.specs.declared.sifting.Counting.TheVariants as counting
+use Rattle.fault_serving.specs.declared.sifting.Counting.{Counting}
+use Rattle.fault_serving.specs.declared.sifting.Counts.{Counts}
+use Rattle.fault_serving.specs.declared.sifting.Outcome.TheVariants as outcome
 use Rattle.play_coverage.specs.declared.contending.Contention.{Contention}
 use Rattle.play_coverage.specs.declared.outcomes.FaultKind.{FaultKind}
 use Rattle.play_coverage.specs.declared.outcomes.FaultKind.TheVariants as kind
-use Rattle.play_coverage.specs.declared.outcomes.Outcome.TheVariants as outcome
-use Rattle.play_coverage.specs.declared.tallies.Counts.{Counts}
 use Rattle.play_coverage.specs.declared.tallies.Tally.{Tally}
 use Rattle.play_coverage.specs.Lines.{count, fault_lines, has_come, is_counted, is_loop, kind_word}
 use Rattle.play_coverage.specs.Lines.{missed_line, most_told, told_lines}
@@ -75,10 +77,22 @@ counts_with c k j = record {
   invisible = c.invisible + one_if (is_counted k outcome.Invisible j);
 }
 
--- ---- so many bridges more that are caught
+-- ---- bridges that are only counted
 
-abbrev pub with_caught : Tally → ℕ → Tally
-with_caught t n = record t { shorts = record t.shorts { caught = t.shorts.caught + n } }
+-- which may be, where so many that are missed are told: those that have no line
+abbrev pub counting_for : (listed : Bool) → (told : ℕ) → Counting
+counting_for listed told =
+    if listed then counting.Nothing else (if nat_lt told most_told then counting.AllButMissed else counting.Everything)
+
+-- so many more
+abbrev pub with_counts : Tally → Counts → Tally
+with_counts t c = record t {
+  shorts = record {
+    caught = t.shorts.caught + c.caught;
+    missed = t.shorts.missed + c.missed;
+    invisible = t.shorts.invisible + c.invisible;
+  };
+}
 
 -- ---- the line of a kind, by its counts
 

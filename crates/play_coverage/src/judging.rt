@@ -1,28 +1,24 @@
 //! What a program makes of faults, one after another.
 
-ghost use Rattle.std.specs.Prelude.{◌≡◌, true, flat_map, option_map, IfOk, OnOk};
+ghost use Rattle.std.specs.Prelude.{flat_map, option_map, IfOk, OnOk};
 ghost use Rattle.std.specs.List.{AllByRecursion};
 ghost use Rattle.svf_programs.specs.Sizes.{program_of};
 ghost use Rattle.board_plan.specs.View.{wiring};
 ghost use Rattle.board_faults.specs.Faults.{IsFaultOf, IsWayOf, ways};
 ghost use Rattle.board_faults.specs.Faulty.{CanBeJudged};
 ghost use Rattle.board_faults.specs.Judging.{JudgesFault, JudgesWayWith};
-ghost use Rattle.board_faults.specs.Listing.{left_of};
 ghost use Rattle.board_faults.specs.Made.{IsReadyPlan};
-ghost use Rattle.fault_serving.specs.Caught.{IsSifted};
-ghost use Rattle.fault_serving.specs.Serving.{AreTold, IsToldOf, MayServe};
+ghost use Rattle.fault_serving.specs.Serving.{AreTold, IsToldOf};
 ghost use Rattle.play_coverage.specs.Tallies.{TellsFaults, TellsMore};
 ghost use Rattle.play_coverage.specs.Told.{IsBench, JudgesPassed};
 
-use crate::tallies::{Tally, count_caught, tally_behind, tell};
+use crate::tallies::{Tally, count_more, counting_for, tally_behind, tell};
 use board_faults::{
     Fault, Faults, Judged, JudgedWay, Sights, Verdict, Way, bench_of, is_invisible, judge_way,
     sights_of,
 };
 use board_plan::Plan;
-use fault_serving::{
-    Chunk, Serving, Sifted, next_chunk, next_sifted, serving_of, told_at, told_behind,
-};
+use fault_serving::{Chunk, next_sifted, serving_of, told_at, told_behind};
 use play_model::Ending;
 use std::alloc::{AllocError, Global};
 use svf_programs::Program;
@@ -49,7 +45,8 @@ pub fn bench_for(alloc: Global, plan: &Plan) -> Result<Bench, AllocError>
 /// that no program could catch. Refused where memory runs out, or where a count does not fit.
 ///
 /// A play of the board tells it of some faults at a time, where the board has no strings and the program passes on it;
-/// a way in which a bit that stays in a register is another is played as a whole, and elsewhere every way is.
+/// a way in which a bit that stays in a register is another is played as a whole, and elsewhere every way is. Bridges
+/// that have no line are only counted, where the first captures of the play tell enough.
 ///
 /// Asks that the plan is ready, as those are that board files make.
 pub(crate) fn tell_faults(
@@ -69,7 +66,15 @@ pub(crate) fn tell_faults(
     let mut tally = tally_behind(text);
     let mut left = Faults::of(&plan.nets);
     'chunks: loop {
-        let next = next_faults(alloc, &serving, plan, program, listed, &mut left)?;
+        let next = next_sifted(
+            alloc,
+            &serving,
+            plan,
+            program,
+            &bench.sights,
+            counting_for(listed, tally.told),
+            &mut left,
+        )?;
         tell_chunk(
             alloc,
             &mut bench,
@@ -79,35 +84,11 @@ pub(crate) fn tell_faults(
             &next.chunk,
             &mut tally,
         )?;
-        count_caught(&mut tally, next.caught)?;
+        count_more(&mut tally, next.counts)?;
         if next.chunk.faults.is_empty() {
             return Ok(tally);
         }
     }
-}
-
-/// The next of the faults that are left, and what one play tells of them; where they are not listed, bridges that are
-/// caught in each of their ways are only counted, where the first captures tell that.
-fn next_faults(
-    alloc: Global,
-    serving: &Serving,
-    plan: &Plan,
-    program: &Program,
-    listed: bool,
-    left: &mut Faults<'_>,
-) -> Result<Sifted, AllocError>
-    requires ready { IsReadyPlan plan.now }
-    requires serving { MayServe (program_of program.now) (wiring plan.now) serving.now }
-    requires faults { AllByRecursion (IsFaultOf (wiring plan.now).nets) (left_of left.old) }
-    ensures sifted { IfOk result (λ s. IsSifted (program_of program.now) (wiring plan.now) (left_of left.old) s
-        (left_of left.new)) }
-    ensures all { IfOk result (λ s. listed ≡ true → s.caught ≡ 0) }
-{
-    if !listed {
-        return next_sifted(alloc, serving, plan, program, left);
-    }
-    let chunk = next_chunk(alloc, serving, plan, program, left)?;
-    Ok(Sifted { caught: 0, chunk })
 }
 
 /// Tells some faults more.

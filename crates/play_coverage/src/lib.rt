@@ -15,8 +15,9 @@ mod words;
 
 pub use contending::{Contention, contentions};
 pub use covering::write_cover;
+pub use fault_serving::Outcome;
 pub use judging::{Bench, bench_for, judge_fault};
-pub use outcomes::{FaultKind, Outcome};
+pub use outcomes::FaultKind;
 
 /// The lines of some faults, worked out.
 pub fn covers_compute()

@@ -5,18 +5,8 @@ ghost use Rattle.play_coverage.specs.Lines as spec;
 ghost use Rattle.play_coverage.specs.Lines.{comes_to, has_come, is_counted};
 
 use board_faults::{Fault, Judged, JudgedWay, Verdict};
+use fault_serving::Outcome;
 use play_model::Ending;
-
-/// What a program makes of a fault.
-#[derive(Drop, Clone, Copy)]
-pub enum Outcome {
-    /// Each of its ways that shows is caught.
-    Caught,
-    /// One of its ways shows, and is not caught.
-    Missed,
-    /// None of its ways shows to any program.
-    Invisible,
-}
 
 /// A kind of faults, as they are counted.
 #[derive(Drop, Clone, Copy)]

@@ -6,24 +6,17 @@ ghost use Rattle.board_plan.specs.Planned.{Wiring};
 ghost use Rattle.board_plan.specs.View.{wiring};
 ghost use Rattle.play_coverage.specs.Lines.{is_loop};
 ghost use Rattle.play_coverage.specs.Tallies as spec;
-ghost use Rattle.play_coverage.specs.Tallies.{IsTally, counts_with, line_told, next_told, one_if, with_caught};
+ghost use Rattle.play_coverage.specs.Tallies.{IsTally, counts_with, line_told, next_told, one_if, with_counts};
 
-use crate::outcomes::{FaultKind, Outcome, has_come, is_counted};
+use crate::outcomes::{FaultKind, has_come, is_counted};
 use crate::ways::{put_each_way, put_missed_line};
 use board_faults::Judged;
 use board_plan::Plan;
+use fault_serving::{Counting, Counts, Outcome};
 use std::alloc::AllocError;
 
 /// So many faults that are missed are told, each with a line.
 const MOST_TOLD: usize = 256;
-
-/// How many faults of a kind are caught, missed and invisible.
-#[derive(Drop, Clone, Copy)]
-pub(crate) struct Counts {
-    pub(crate) caught: usize,
-    pub(crate) missed: usize,
-    pub(crate) invisible: usize,
-}
 
 /// What is told of the faults that were judged so far: a text with their lines, how many of them are missed and told
 /// there, and how many there are of each kind. No fault itself is kept.
@@ -139,12 +132,37 @@ fn count_in(counts: Counts, kind: FaultKind, judged: &Judged) -> Result<Counts, 
     })
 }
 
-/// Counts so many bridges more that are caught. Refused where the count does not fit.
-pub(crate) fn count_caught(tally: &mut Tally, caught: usize) -> Result<(), AllocError>
-    ensures { OnOk result (tally.new ≡ with_caught tally.old caught) }
+/// Which bridges may be only counted, where so many that are missed are told: none where all faults are listed, and none
+/// that is missed where it would be told.
+pub(crate) fn counting_for(listed: bool, told: usize) -> Counting
+    ensures { result ≡ spec.counting_for listed told }
 {
-    tally.shorts.caught = tally.shorts.caught.checked_add(caught).ok_or(AllocError)?;
+    if listed {
+        Counting::Nothing
+    } else if told < MOST_TOLD {
+        Counting::AllButMissed
+    } else {
+        Counting::Everything
+    }
+}
+
+/// Counts so many bridges more. Refused where a count does not fit.
+pub(crate) fn count_more(tally: &mut Tally, counts: Counts) -> Result<(), AllocError>
+    ensures { OnOk result (tally.new ≡ with_counts tally.old counts) }
+{
+    tally.shorts = Counts {
+        caught: sum(tally.shorts.caught, counts.caught)?,
+        missed: sum(tally.shorts.missed, counts.missed)?,
+        invisible: sum(tally.shorts.invisible, counts.invisible)?,
+    };
     Ok(())
+}
+
+/// Refused where it does not fit.
+fn sum(count: usize, more: usize) -> Result<usize, AllocError>
+    ensures { IfOk result (λ n. n ≡ count + more) }
+{
+    count.checked_add(more).ok_or(AllocError)
 }
 
 /// One more where it is so. Refused where that does not fit.

@@ -7,8 +7,9 @@ ghost use Rattle.play_coverage.specs.Lines.{loops_line, totals};
 ghost use Rattle.play_coverage.specs.Tallies.{IsTally, counts_line};
 
 use crate::outcomes::FaultKind;
-use crate::tallies::{Counts, Tally};
+use crate::tallies::Tally;
 use crate::words::kind_word;
+use fault_serving::Counts;
 use itoa::Buffer;
 use output_words::put;
 use std::alloc::AllocError;

@@ -1,18 +1,12 @@
-use Rattle.std.proofs.Common.{◌≡◌, ◌<◌, Bool, true, false, not, ◌&&◌, ◌||◌, bit_and, if◌then◌else◌, refl, ap, ap₂, ◌∙◌}
+use Rattle.std.proofs.Common.{◌≡◌, ◌&&◌, if◌then◌else◌, refl, ap, ap₂, ◌∙◌}
 use Rattle.board_faults.specs.Together as together
-use Rattle.jt_bits.specs.Packed.{has_bit}
 use Rattle.board_faults.specs.Planes.{driven_at, led}
 use Rattle.board_faults.specs.declared.together.Driven.{Driven}
 use Rattle.pin_nets.specs.declared.Pull.{Pull}
 use Rattle.board_faults.specs.declared.kinds.Winner.{Winner}
 use Rattle.board_faults.specs.declared.kinds.Winner.TheVariants.{Zeros, Ones, First, Second}
-use Rattle.board_faults.proofs.WordBits.{and_bit, or_bit}
+use Rattle.board_faults.proofs.WordBits.{and_bit}
 use Rattle.board_faults.proofs.planes.bridge_words.Goals as goal
-
-chosen : (b x y : Bool) → ((b && x) || (not b && y)) ≡ (if b then x else y)
-chosen true true y = refl
-chosen true false y = refl
-chosen false x y = refl
 
 shown : (winner : Winner) (pull : Pull) (f g : Driven) → let all = together.together (together.pulled pull) (together.together f g) in
     (if all.zero && all.one then led winner f g else together.sees all) ≡ together.bridge_sees winner pull f g
@@ -26,14 +20,9 @@ returns c = λ k h.
     let f = driven_at c.args.f k in
     let g = driven_at c.args.g k in
     let t = c.together-all.result in
-    let opposed = bit_and t.zero t.one in
     let made : driven_at t k ≡ together.together (together.pulled c.args.pull) (together.together f g) =
     c.together-all.ensures k ∙ ap₂ together.together (c.pulled.ensures k h) (c.together.ensures k) in
-    or_bit (bit_and opposed c.led.result) (bit_and c.invert.result c.sees.result) k
-    ∙ ap₂ (λ (x y : Bool). x || y)
-    (and_bit opposed c.led.result k ∙ ap (λ (x : Bool). has_bit opposed k && x) (c.led.ensures k h))
-    (and_bit c.invert.result c.sees.result k ∙ ap₂ (λ (x y : Bool). x && y) (c.invert.ensures k h) (c.sees.ensures k h))
-    ∙ chosen (has_bit opposed k) (led c.args.winner f g) (together.sees (driven_at t k))
-    ∙ ap (λ (b : Bool). if b then led c.args.winner f g else together.sees (driven_at t k)) (and_bit t.zero t.one k)
+    c.chosen.ensures k h
+    ∙ (λ i. if and_bit t.zero t.one k i then c.led.ensures k h i else c.sees.ensures k h i)
     ∙ ap (λ (d : Driven). if d.zero && d.one then led c.args.winner f g else together.sees d) made
     ∙ shown c.args.winner c.args.pull f g

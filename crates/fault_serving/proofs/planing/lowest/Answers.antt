@@ -1,7 +1,6 @@
 use Rattle.std.proofs.Common.{ℕ, ap, ◌∙◌, arith}
 use Rattle.jt_bits.specs.Packed.{has_bit}
-use Rattle.board_faults.proofs.WordBits.{no_bit, none_below}
-use Rattle.fault_serving.proofs.Lowest.{lowest_set}
+use Rattle.board_faults.proofs.WordBits.{lowest_set, no_bit, none_below}
 use Rattle.fault_serving.proofs.planing.lowest.Goals as goal
 
 pub returns-then-word-eq0-clause-none : goal.returns-then-word-eq0-clause-none
@@ -11,4 +10,4 @@ pub returns-clause-none : goal.returns-clause-none
 returns-clause-none c = λ k below. none_below c.args.word k c.if-word-eq0.false (omega (arith, c.ranges.word)) below
 
 pub returns-clause-set : goal.returns-clause-set
-returns-clause-set c = λ h. lowest_set c.args.word c.if-word-eq0.false (omega (arith, c.ranges.word))
+returns-clause-set c = λ h. (lowest_set c.args.word c.if-word-eq0.false (omega (arith, c.ranges.word))).1

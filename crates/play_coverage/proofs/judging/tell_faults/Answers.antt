@@ -10,10 +10,11 @@ use Rattle.board_faults.specs.Faulty.{CanBeJudged}
 use Rattle.board_faults.specs.Judging.{JudgesAll}
 use Rattle.board_faults.specs.Listing.{left_of}
 use Rattle.board_faults.proofs.JudgingLaws.{every_fault}
-use Rattle.fault_serving.specs.Caught.{IsCaught}
+use Rattle.fault_serving.specs.declared.sifting.Counting.{Counting}
+use Rattle.fault_serving.specs.Sifting.{AreCounted, ComesTo}
 use Rattle.fault_serving.proofs.OnePlay.{judges_join, none_there, some_less, some_there}
 use Rattle.fault_serving.proofs.Sifting.{some_kept}
-use Rattle.play_coverage.proofs.Caught.{told_with}
+use Rattle.play_coverage.proofs.Counted.{told_with}
 use Rattle.play_coverage.proofs.judging.tell_faults.Goals as goal
 
 pub chunks-init : goal.chunks-init
@@ -35,11 +36,14 @@ chunks-init c =
 pub tell_chunk-requires-clause-may : goal.tell_chunk-requires-clause-may
 tell_chunk-requires-clause-may c = record { ready = c.requires.powers_up.ready; sound = c.requires.powers_up.sound; counted = c.requires.counted }
 
-pub next_faults-requires-clause-faults : goal.next_faults-requires-clause-faults
-next_faults-requires-clause-faults c = c.chunks.invariant.theirs
+pub next_sifted-requires-clause-faults : goal.next_sifted-requires-clause-faults
+next_sifted-requires-clause-faults c = c.chunks.invariant.theirs
 
-pub next_faults-requires-clause-serving : goal.next_faults-requires-clause-serving
-next_faults-requires-clause-serving c = c.chunks.invariant.serving
+pub next_sifted-requires-clause-serving : goal.next_sifted-requires-clause-serving
+next_sifted-requires-clause-serving c = c.chunks.invariant.serving
+
+pub next_sifted-requires-clause-sights : goal.next_sifted-requires-clause-sights
+next_sifted-requires-clause-sights c = c.chunks.invariant.bench.sights
 
 pub returns-then-is_empty : goal.returns-then-is_empty
 returns-then-is_empty c =
@@ -48,12 +52,13 @@ returns-then-is_empty c =
     let can : CanBeJudged w = record { ready = c.requires.powers_up.ready; sound = c.requires.powers_up.sound; counted = c.requires.counted } in
     let i = c.chunks.invariant in
     let fs = c.in_ok-next.next.chunk.faults.items in
-    let it = c.in_ok-next.ensures.sifted.sifts in
-    let n = c.in_ok-next.next.caught in
+    let it = c.in_ok-next.ensures.sifts in
+    let counts = c.in_ok-next.next.counts in
     let some = c.in_ok-tell_chunk.ensures.tells c.args.text.items i.judged i.tells in
-    let more = told_with program c.len.ensures.sound.legal w can c.args.text c.args.listed c.args.text.items i.judged some.0 it.first fs n
-    c.tell_chunk.new.tally c.count_caught.new.tally c.in_ok-next.ensures.all it.sifted some.1 some.2 c.in_ok-count_caught.ensures in
-    let none : left_of c.next_faults.new.left ≡ [] = it.over
+    let which = subst (λ (x : Counting). AreCounted x counts) c.counting_for.ensures c.in_ok-next.ensures.counted in
+    let more = told_with program c.len.ensures.sound.legal w can c.args.text c.args.listed c.chunks.tally.told c.args.text.items i.judged some.0 it.first fs counts
+    c.tell_chunk.new.tally c.count_more.new.tally i.tells.told which it.sifted some.1 some.2 c.in_ok-count_more.ensures in
+    let none : left_of c.next_sifted.new.left ≡ [] = it.over
     (none_there fs _ c.is_empty.result c.is_empty.ensures c.in_ok-next.next.chunk.faults.ok.0 c.if-is_empty.true) in
     let all : faults w.nets ≡ i.done ++ it.first =
     i.all ∙ ap (λ (l : List Fault). i.done ++ l) (it.are ∙ ap (λ (l : List Fault). it.first ++ l) none ∙ append-nil it.first) in
@@ -71,16 +76,17 @@ chunks-preserved c =
     let can : CanBeJudged w = record { ready = c.requires.powers_up.ready; sound = c.requires.powers_up.sound; counted = c.requires.counted } in
     let i = c.chunks.invariant in
     let fs = c.in_ok-next.next.chunk.faults.items in
-    let it = c.in_ok-next.ensures.sifted.sifts in
-    let n = c.in_ok-next.next.caught in
+    let it = c.in_ok-next.ensures.sifts in
+    let counts = c.in_ok-next.next.counts in
     let some = c.in_ok-tell_chunk.ensures.tells c.args.text.items i.judged i.tells in
-    let more = told_with program c.len.ensures.sound.legal w can c.args.text c.args.listed c.args.text.items i.judged some.0 it.first fs n
-    c.tell_chunk.new.tally c.count_caught.new.tally c.in_ok-next.ensures.all it.sifted some.1 some.2 c.in_ok-count_caught.ensures in
+    let which = subst (λ (x : Counting). AreCounted x counts) c.counting_for.ensures c.in_ok-next.ensures.counted in
+    let more = told_with program c.len.ensures.sound.legal w can c.args.text c.args.listed c.chunks.tally.told c.args.text.items i.judged some.0 it.first fs counts
+    c.tell_chunk.new.tally c.count_more.new.tally i.tells.told which it.sifted some.1 some.2 c.in_ok-count_more.ensures in
     record {
       done = i.done ++ it.first;
       judged = i.judged ++ more.0;
-      all = i.all ∙ ap (λ (l : List Fault). i.done ++ l) it.are ∙ sym (append_assoc i.done it.first (left_of c.next_faults.new.left));
-      theirs = c.in_ok-next.ensures.sifted.others;
+      all = i.all ∙ ap (λ (l : List Fault). i.done ++ l) it.are ∙ sym (append_assoc i.done it.first (left_of c.next_sifted.new.left));
+      theirs = c.in_ok-next.ensures.others;
       serving = i.serving;
       bench = c.in_ok-tell_chunk.ensures.bench;
       judges = judges_join program w i.done it.first i.judged more.0 i.judges more.1;
@@ -89,8 +95,8 @@ chunks-preserved c =
 
 pub chunks-smaller : goal.chunks-smaller
 chunks-smaller c =
-    let it = c.in_ok-next.ensures.sifted.sifts in
+    let it = c.in_ok-next.ensures.sifts in
     let fs = c.in_ok-next.next.chunk.faults.items in
-    some_less (left_of c.chunks.left) it.first (left_of c.next_faults.new.left) it.are
-    (some_kept (IsCaught (program_of c.args.program.now) (wiring c.args.plan.now)) it.first fs c.in_ok-next.next.caught it.sifted
+    some_less (left_of c.chunks.left) it.first (left_of c.next_sifted.new.left) it.are
+    (some_kept (ComesTo (program_of c.args.program.now) (wiring c.args.plan.now)) it.first fs c.in_ok-next.next.counts it.sifted
     (some_there fs _ c.is_empty.result c.is_empty.ensures c.in_ok-next.next.chunk.faults.ok.0 c.if-is_empty.false))
