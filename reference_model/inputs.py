@@ -849,6 +849,23 @@ def covers(rng, number: int) -> Case:
     return Case(damaged_bytes(rng, text, ODD_BYTES) if rng.random() < 0.03 else text, tree, its_files)
 
 
+class Many(Small):
+    """A made description of the same kind with so many pins that a board of two has some fifty nets."""
+
+    def make_ports(self) -> None:
+        self.ports, self.free = {name: "bit" for name in (*TAPS.values(), "TRST")}, []
+        for number in range(5):
+            self.ports[f"P{number}"] = "bit_vector(0 to 8)"
+            self.free += [(f"P{number}", subscript) for subscript in range(9)]
+
+
+def many_covers(rng, number: int) -> Case:
+    """Boards of many nets, and short tests of them: most have more than 256 faults that are missed."""
+    tree, its_files = chained(rng, [Many(rng).text() for _ in range(2)], 1)
+    board = read_board(tree, its_files)
+    return Case(spell(rng, tested(rng, board), 0.97), tree, its_files)
+
+
 def diagnoses(rng, number: int) -> Case:
     """Boards and tests as those of `covers`."""
     return covers(rng, number)
@@ -948,7 +965,7 @@ KINDS = {kind.__name__: kind for kind in (
 WAVE_KINDS = {kind.__name__: kind for kind in (rests, programs, boards, banks, follows)}
 
 
-COVER_KINDS = {covers.__name__: covers}
+COVER_KINDS = {kind.__name__: kind for kind in (covers, many_covers)}
 DIAGNOSE_KINDS = {diagnoses.__name__: diagnoses}
 
 
