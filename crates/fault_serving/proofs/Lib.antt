@@ -1,3 +1,4 @@
+pub mod Listing
 pub mod Lowest
 pub mod OnePlay
 pub mod Plain

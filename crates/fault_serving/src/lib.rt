@@ -5,10 +5,12 @@
 
 ghost use Rattle.fault_serving.specs.Rows.{ServingRows};
 
+mod listing;
 mod planing;
 mod serving;
 mod words;
 
+pub use listing::may_list;
 pub use planing::NoteWords;
 pub use serving::{
     Chunk, Serving, Sifted, Telling, ending_on, next_chunk, next_sifted, serving_of, told_at,
