@@ -3,7 +3,6 @@ pub mod ByNets
 pub mod DriverTables
 pub mod Entering
 pub mod Events
-pub mod Firsts
 pub mod Groups
 pub mod Marking
 pub mod NotedEndings

@@ -1,7 +1,6 @@
 //! Laws of captures.
 ghost use Rattle.fault_events.specs.Endings.{CapturesMayBeCut, NotesTellOfFaults};
 ghost use Rattle.fault_events.specs.Events.{EventsTellOfFaults, EventsTellOfRuns};
-ghost use Rattle.fault_events.specs.Firsts.{FirstsAreFailures, OthersAreTold};
 ghost use Rattle.fault_events.specs.Notes.{NotesTellOfWays};
 ghost use Rattle.fault_events.specs.Rows.{EventRows};
 ghost use Rattle.fault_events.specs.Sources.{CapturesTakeFromSources};
@@ -38,17 +37,6 @@ pub fn notes_tell_of_ways()
 /// tells how it ends on the board where a fault shows in a way, unless a bit that stays is another before.
 pub fn notes_tell_of_faults()
     ensures { NotesTellOfFaults }
-{}
-
-/// Of such a program, the first bit that fails at each capture where the fault shows in the way fails in its play to the
-/// end on that board, as long as no bit that stays is another before.
-pub fn firsts_are_failures()
-    ensures { FirstsAreFailures }
-{}
-
-/// Where one of these is none of some bits, by what is noted of two nets that are bridged, that is another.
-pub fn others_are_told()
-    ensures { OthersAreTold }
 {}
 
 /// Captures may be judged block by block: the first that do not tell that a program passes tell how it ends.

@@ -6,7 +6,6 @@
 mod captures;
 mod differing;
 mod drives;
-mod firsts;
 mod laws;
 mod marks;
 mod nets;
@@ -17,12 +16,10 @@ mod tables;
 mod ways;
 
 pub use captures::{Capture, Captures, start_play};
-pub use differing::Pulls;
-pub use firsts::lists_firsts;
+pub use differing::{Pulls, first_other, stays_other};
 pub use laws::{
     captures_may_be_cut, captures_take_from_sources, events_compute, events_tell_of_faults,
-    events_tell_of_runs, firsts_are_failures, notes_tell_of_faults, notes_tell_of_ways,
-    others_are_told,
+    events_tell_of_runs, notes_tell_of_faults, notes_tell_of_ways,
 };
 pub use nets::{NetCapture, net_captures, net_ending, note_at, pulls_of};
 pub use notes::{Note, Spot};

@@ -1,3 +1,4 @@
+pub mod Firsts
 pub mod Listing
 pub mod Lowest
 pub mod OnePlay

@@ -9,8 +9,8 @@ use Rattle.board_faults.specs.Faults.{IsWayOf}
 use Rattle.board_faults.specs.Faulty.{CanBeJudged}
 use Rattle.board_faults.proofs.JudgingLaws.{may_have}
 use Rattle.fault_events.specs.Captures.{captures}
-use Rattle.fault_events.specs.Firsts.{HasOther, firsts_noted}
-use Rattle.fault_events.proofs.Firsts.{firsts_are_failures}
+use Rattle.fault_serving.specs.Firsts.{HasOther, firsts_noted}
+use Rattle.fault_serving.proofs.Firsts.{firsts_are_failures}
 use Rattle.fault_serving.specs.Serving.{ListsOther, Serves}
 use Rattle.fault_serving.proofs.Plain.{without_strings}
 

@@ -1,4 +1,5 @@
 pub mod Caught
+pub mod Firsts
 pub mod Planes
 pub mod Rows
 pub mod Serving

@@ -18,7 +18,7 @@ use Rattle.board_faults.specs.Made.{board_of}
 use Rattle.fault_events.specs.Blocks.{IsBlock, noted_in}
 use Rattle.fault_events.specs.Captures.{Noted, captures}
 use Rattle.fault_events.specs.Endings.{and_then, ending_noted}
-use Rattle.fault_events.specs.Firsts.{HasOther}
+use Rattle.fault_serving.specs.Firsts.{HasOther}
 use Rattle.fault_events.specs.Nets.{seen, with_nets_noted}
 use Rattle.fault_serving.specs.declared.planing.NoteWords.{NoteWords}
 use Rattle.fault_serving.specs.declared.serving.Chunk.{Chunk}

@@ -10,7 +10,7 @@ mod planing;
 mod serving;
 mod words;
 
-pub use listing::may_list;
+pub use listing::{firsts_are_failures, may_list, others_are_told};
 pub use planing::NoteWords;
 pub use serving::{
     Chunk, Serving, Sifted, Telling, ending_on, next_chunk, next_sifted, serving_of, told_at,

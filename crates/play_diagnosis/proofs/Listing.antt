@@ -6,7 +6,7 @@ use Rattle.svf_programs.specs.Steps.{Program}
 use Rattle.board_model.specs.Chain.{BoardState}
 use Rattle.board_model.specs.Following.{IsAmong}
 use Rattle.play_direct.specs.ToTheEnd.{all_failures}
-use Rattle.fault_events.specs.Firsts.{HasOther}
+use Rattle.fault_serving.specs.Firsts.{HasOther}
 use Rattle.play_diagnosis.specs.Fitting.{Gives}
 use Rattle.play_diagnosis.specs.Reading.{PlaysOn}
 

@@ -8,8 +8,8 @@ use Rattle.scan_vectors.specs.declared.part.Part.TheVariants.{Header, Data, Trai
 use Rattle.scan_vectors.specs.Failures.{Found}
 use Rattle.play_model.specs.declared.ending.Ending.{Ending}
 use Rattle.play_model.specs.declared.ending.Ending.TheVariants.{Pass, Fail, Lost, BadAnswer}
-use Rattle.fault_events.specs.Firsts.{is_part, is_same_bit}
-use Rattle.fault_events.proofs.Firsts.{bit_is, both, number_is, part_is}
+use Rattle.fault_serving.specs.Firsts.{is_part, is_same_bit}
+use Rattle.fault_serving.proofs.Firsts.{bit_is, both, number_is, part_is}
 use Rattle.play_diagnosis.specs.Ended.{are_same, is_first, is_pass, same_bits}
 
 and-true : (a b : Bool) → (a && b) ≡ true → (a ≡ true) × (b ≡ true)

@@ -4,7 +4,7 @@ use Rattle.scan_vectors.specs.declared.failures.Mismatch.{Mismatch}
 use Rattle.scan_vectors.specs.Failures.{Found}
 use Rattle.play_model.specs.declared.ending.Ending.{Ending}
 use Rattle.play_model.specs.declared.ending.Ending.TheVariants.{Pass, Fail}
-use Rattle.fault_events.specs.Firsts.{is_part, is_same_bit}
+use Rattle.fault_serving.specs.Firsts.{is_part, is_same_bit}
 use Rattle.play_diagnosis.specs.Reading.{Verdict, Passes, Stops, PlaysOn}
 
 abbrev pub is_pass : Ending → Bool

@@ -6,7 +6,7 @@ use Rattle.scan_vectors.specs.declared.failures.Mismatch.{Mismatch}
 use Rattle.scan_vectors.specs.Failures.{Found, found}
 use Rattle.scan_vectors.specs.Vector.{VectorBit}
 use Rattle.svf_programs.specs.Steps.{Numbered, Program, Scan, Step}
-use Rattle.fault_events.specs.Firsts.{is_part}
+use Rattle.fault_serving.specs.Firsts.{is_part}
 use Rattle.play_diagnosis.specs.declared.lines.Line.{Line}
 use Rattle.play_diagnosis.specs.declared.lines.Line.TheVariants as line
 use Rattle.play_diagnosis.specs.declared.reading.LogFault.{LogFault}

@@ -6,10 +6,10 @@ use Rattle.board_faults.specs.declared.kinds.Way.TheVariants as way
 use Rattle.fault_events.specs.declared.differing.Pulls.{Pulls}
 use Rattle.fault_events.specs.Blocks.{noted_in}
 use Rattle.fault_events.specs.Captures.{Noted}
-use Rattle.fault_events.specs.Firsts.{lists_firsts}
+use Rattle.fault_serving.specs.Firsts.{lists_firsts}
 use Rattle.fault_events.specs.Nets.{seen}
 use Rattle.fault_events.specs.Pulls.{pulls_of}
-use Rattle.fault_events.proofs.Firsts.{others_are_told}
+use Rattle.fault_serving.proofs.Firsts.{others_are_told}
 use Rattle.fault_serving.proofs.listing.bridge_may_list.Goals as goal
 
 pub returns : goal.returns

@@ -7,7 +7,7 @@ use Rattle.board_faults.specs.declared.kinds.Way.{Way}
 use Rattle.board_faults.specs.declared.kinds.Way.TheVariants as way
 use Rattle.board_faults.specs.Faults.{IsWayOf}
 use Rattle.fault_events.specs.Captures.{Noted}
-use Rattle.fault_events.specs.Firsts.{HasOther, firsts_noted}
+use Rattle.fault_serving.specs.Firsts.{HasOther, firsts_noted}
 use Rattle.fault_serving.specs.declared.serving.Serving.{Serving}
 use Rattle.fault_serving.specs.Serving.{IsTelling, ListsOther, MayServe}
 use Rattle.fault_serving.proofs.Listing.{other_fails}

@@ -5,7 +5,7 @@ use Rattle.scan_vectors.specs.contracts.part.Part.{the_type}
 use Rattle.scan_vectors.specs.declared.failures.Mismatch.{Mismatch}
 use Rattle.scan_vectors.specs.declared.part.Part.{Part}
 use Rattle.scan_vectors.specs.declared.part.Part.TheVariants.{Header, Data, Trailer}
-use Rattle.fault_events.specs.Firsts.{is_part, is_same_bit}
+use Rattle.fault_serving.specs.Firsts.{is_part, is_same_bit}
 use Rattle.play_diagnosis.specs.Ended.{same_bits}
 use Rattle.play_diagnosis.proofs.endings.same_bits.Goals as goal
 

@@ -6,7 +6,7 @@ use Rattle.board_plan.specs.View.{wiring}
 use Rattle.board_faults.specs.Judging.{wiring_with}
 use Rattle.board_faults.specs.Made.{board_of}
 use Rattle.play_direct.specs.ToTheEnd.{all_failures}
-use Rattle.fault_events.specs.Firsts.{HasOther}
+use Rattle.fault_serving.specs.Firsts.{HasOther}
 use Rattle.play_diagnosis.specs.Fitting.{Gives}
 use Rattle.play_diagnosis.specs.Reading.{Verdict, verdict_of}
 use Rattle.play_diagnosis.proofs.Listing.{gives_no_other}

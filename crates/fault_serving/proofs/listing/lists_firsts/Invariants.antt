@@ -1,7 +1,7 @@
 use Rattle.std.proofs.Common.{◌≡◌, drop, map}
-use Rattle.fault_events.specs.Firsts.{lists_firsts}
 use Rattle.fault_events.specs.Nets.{seen}
-use Rattle.fault_events.proofs.firsts.lists_firsts.Given as goal
+use Rattle.fault_serving.specs.Firsts.{lists_firsts}
+use Rattle.fault_serving.proofs.listing.lists_firsts.Given as goal
 
 abbrev pub invariant-loop-capture : goal.invariant-loop-capture
 invariant-loop-capture l =

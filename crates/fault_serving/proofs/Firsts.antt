@@ -40,7 +40,7 @@ use Rattle.fault_events.specs.declared.notes.Spot.{Spot}
 use Rattle.fault_events.specs.Captures.{Noted, noted_at}
 use Rattle.fault_events.specs.Endings.{first_note, second_note}
 use Rattle.fault_events.specs.Events.{Event, caught_at, events, events_of_step, stays_other}
-use Rattle.fault_events.specs.Firsts.{FirstsAreFailures, HasOther, OthersAreTold, firsts_by, firsts_by_nets, firsts_noted, is_among, is_listed, is_part, is_same_bit, lists_firsts}
+use Rattle.fault_events.specs.Firsts.{firsts_by}
 use Rattle.fault_events.specs.Nets.{note_at, with_nets_noted}
 use Rattle.fault_events.specs.Notes.{first_pins, note_of, second_pins, way_first, way_stays}
 use Rattle.fault_events.specs.Pulls.{first_by, pulls_of, stays_by}
@@ -48,6 +48,7 @@ use Rattle.fault_events.proofs.ByNets.{IsOfNets, first_same, stays_same}
 use Rattle.fault_events.proofs.Events.{count, failed, opened_count, pass_parts, put_first, step_count, step_tells}
 use Rattle.fault_events.proofs.NotedEndings.{AllOn, all_on, first_noted, second_noted}
 use Rattle.fault_events.proofs.Telling.{named, notes_tell}
+use Rattle.fault_serving.specs.Firsts.{FirstsAreFailures, HasOther, OthersAreTold, firsts_by_nets, firsts_noted, is_among, is_listed, is_part, is_same_bit, lists_firsts}
 
 -- ---- the first bit of a scan that fails is among those that fail
 
