@@ -93,8 +93,8 @@ fn fits(
     played_fit(alloc, bench, &plan.nets, program, said, way)
 }
 
-/// Whether a way may give what a log says, as far as one play of the board tells which bits fail: not where one does that
-/// a log that lists all does not have.
+/// Whether a way may give what a log says, as far as one play of the board tells which bits fail: not where one does
+/// that is not among all that the log lists.
 fn may_fit(serving: &Serving, plan: &Plan, program: &Program, said: &Said, way: Way) -> bool
     requires may { CanBeJudged (wiring plan.now) }
     requires serving { MayServe (program_of program.now) (wiring plan.now) serving.now }
