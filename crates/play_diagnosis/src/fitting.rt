@@ -5,7 +5,7 @@ ghost use Rattle.svf_programs.specs.Sizes.{program_of};
 ghost use Rattle.board_loops.specs.Depending.{wired};
 ghost use Rattle.board_plan.specs.View.{net as planned_net, wiring};
 ghost use Rattle.board_faults.specs.Faults.{IsFaultOf, IsWayOf, ways};
-ghost use Rattle.board_faults.specs.Faulty.{CanBeJudged, SameDevices, Wires};
+ghost use Rattle.board_faults.specs.Faulty.{CanBeJudged, SameDevices};
 ghost use Rattle.fault_serving.specs.Serving.{AreTold, IsToldOf, MayServe};
 ghost use Rattle.play_diagnosis.specs.Benches.{IsBench};
 ghost use Rattle.play_diagnosis.specs.Fitting.{Fits, Gives, TriesFault};
@@ -13,8 +13,7 @@ ghost use Rattle.play_diagnosis.specs.Reading.{verdict_of};
 
 use crate::endings::{are_same, by_told, is_first, is_pass};
 use crate::reading::Said;
-use board_faults::{Board, Fault, Way, nets_with, play_program};
-use board_loops::{Settling, settle_strings};
+use board_faults::{Board, Fault, Way, play_program, wire_way};
 use board_plan::{Plan, PlannedNet};
 use fault_serving::{Serving, may_list, told_at};
 use play_direct::play_program_all;
@@ -138,31 +137,6 @@ fn played_fit(
     }
     let mut board = Board::powered_up(alloc, bench)?;
     Ok(gives(said, program, &mut board))
-}
-
-/// Gives a bench the nets where a fault of these (asked) shows in a way, and an order of its strings. Answers whether
-/// there is one: else the board has no meaning. Refused where memory runs out.
-fn wire_way(
-    alloc: Global,
-    bench: &mut Plan,
-    nets: &[PlannedNet],
-    way: Way,
-) -> Result<bool, AllocError>
-    requires may { CanBeJudged (wired nets.now bench.old.devices.items) }
-    requires way { IsWayOf (map planned_net nets.now) way }
-    ensures same { OnOk result (SameDevices bench.old bench.new) }
-    ensures wires { IfOk result (Wires (wired nets.now bench.old.devices.items) way bench.new) }
-{
-    let faulty = nets_with(alloc, nets, way)?;
-    let settling = settle_strings(alloc, &faulty, &bench.devices)?;
-    match settling {
-        Settling::Loop(_) => Ok(false),
-        Settling::Order(order) => {
-            bench.nets = faulty;
-            bench.order = order;
-            Ok(true)
-        }
-    }
 }
 
 /// Whether the play of a program on a board gives just what a log says.
