@@ -105,6 +105,14 @@ impl Wiring {
         self.levels.is_opposed(net)
     }
 
+    /// How many pins a net has.
+    pub fn size(&self, net: usize) -> usize
+        requires { net < length self.now.nets }
+        ensures { option_map (λ n. length n.pins) (slice_get self.now.nets net) ≡ Some result }
+    {
+        self.nets[net].pins.len()
+    }
+
     /// How many pins the nets have.
     pub fn pin_count(&self) -> usize
         ensures count { result ≡ length (all_pins self.now.nets) }
@@ -119,6 +127,14 @@ impl Wiring {
         ensures { slice_get (all_pins self.now.nets) pin ≡ Some result }
     {
         self.pins[pin]
+    }
+
+    /// What was last put to a pin, by its place among those of the nets.
+    pub fn drive(&self, pin: usize) -> Drive
+        requires { pin < length (all_pins self.now.nets) }
+        ensures { slice_get self.now.drives pin ≡ Some result }
+    {
+        self.levels.drive(pin)
     }
 
     /// A pin, by its place among those of the nets, drives this from now on. It is put to its net only where it is not

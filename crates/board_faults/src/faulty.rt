@@ -14,7 +14,7 @@ use std::alloc::{AllocError, Global};
 
 /// Gives a bench the nets where a fault of these (asked) shows in a way, and an order of its strings. Answers whether
 /// there is one: else a net depends on itself, and the board has no meaning. Refused where memory runs out.
-pub(crate) fn wire_way(
+pub fn wire_way(
     alloc: Global,
     bench: &mut Plan,
     nets: &[PlannedNet],

@@ -15,7 +15,7 @@ mod sight;
 mod together;
 
 pub use board_chain::Chain;
-pub use faulty::bench_of;
+pub use faulty::{bench_of, wire_way};
 pub use judging::{Judged, JudgedWay, Verdict, judge_way};
 pub use kinds::{Fault, Way, Winner};
 pub use laws::{

@@ -31,30 +31,30 @@ no-second a true = refl
 no-second a false = refl
 
 -- at one capture
-first-same : (nets : List Net) (its_way : Way) → IsOfNets its_way → (notes : List Note)
+pub first_same : (nets : List Net) (its_way : Way) → IsOfNets its_way → (notes : List Note)
     → first_by its_way (pulls_of nets its_way) (note_at (first_of its_way) (nets_noted nets notes)) (note_at (second_of its_way) (nets_noted nets notes))
     ≡ way_first nets its_way (first_note nets its_way notes) (second_note nets its_way notes)
-first-same nets (way.Open net pin bit) of notes = absurd of
-first-same nets (way.Pull net) of notes =
+first_same nets (way.Open net pin bit) of notes = absurd of
+first_same nets (way.Pull net) of notes =
     ap (λ (one : Note). way_first nets (way.Pull net) one (second_note nets (way.Pull net) notes)) (at-net nets net notes)
-first-same nets (way.Stuck net bit) of notes =
+first_same nets (way.Stuck net bit) of notes =
     ap (λ (one : Note). way_first nets (way.Stuck net bit) one (second_note nets (way.Stuck net bit) notes)) (at-net nets net notes)
-first-same nets (way.Short first second winner) of notes =
+first_same nets (way.Short first second winner) of notes =
     ap₂ (λ (one two : Note). way_first nets (way.Short first second winner) one two) (at-net nets first notes) (at-net nets second notes)
 
-stays-same : (nets : List Net) (its_way : Way) → IsOfNets its_way → (notes : List Note)
+pub stays_same : (nets : List Net) (its_way : Way) → IsOfNets its_way → (notes : List Note)
     → stays_by its_way (pulls_of nets its_way) (note_at (first_of its_way) (nets_noted nets notes)) (note_at (second_of its_way) (nets_noted nets notes))
     ≡ way_stays nets its_way (first_note nets its_way notes) (second_note nets its_way notes)
-stays-same nets (way.Open net pin bit) of notes = absurd of
-stays-same nets (way.Pull net) of notes =
+stays_same nets (way.Open net pin bit) of notes = absurd of
+stays_same nets (way.Pull net) of notes =
     let one = note_at net (nets_noted nets notes) in
     no-second (one.stays && pull_differs (pulls_of nets (way.Pull net)).first true one.made) one.stays
     ∙ ap (λ (x : Note). way_stays nets (way.Pull net) x (second_note nets (way.Pull net) notes)) (at-net nets net notes)
-stays-same nets (way.Stuck net bit) of notes =
+stays_same nets (way.Stuck net bit) of notes =
     let one = note_at net (nets_noted nets notes) in
     no-second (one.stays && stuck_differs (pulls_of nets (way.Stuck net bit)).first bit true one.made) one.stays
     ∙ ap (λ (x : Note). way_stays nets (way.Stuck net bit) x (second_note nets (way.Stuck net bit) notes)) (at-net nets net notes)
-stays-same nets (way.Short first second winner) of notes =
+stays_same nets (way.Short first second winner) of notes =
     ap₂ (λ (one two : Note). way_stays nets (way.Short first second winner) one two) (at-net nets first notes) (at-net nets second notes)
 
 -- ---- the ending
@@ -99,7 +99,7 @@ by_nets nets its_way of [] = refl
 by_nets nets its_way of (n ∷ ns) =
     one-by-nets its_way (pulls_of nets its_way) (first_of its_way) (second_of its_way) (with_nets_noted nets n) (map (with_nets_noted nets) ns)
     ∙ ap₂ (λ (o : Option Spot) (b : Bool). told n.command o (if b then None else ending_by_nets its_way (pulls_of nets its_way) (first_of its_way) (second_of its_way) (map (with_nets_noted nets) ns)))
-    (first-same nets its_way of n.notes) (stays-same nets its_way of n.notes)
+    (first_same nets its_way of n.notes) (stays_same nets its_way of n.notes)
     ∙ ap (λ (r : Option Ending). told n.command (way_first nets its_way (first_note nets its_way n.notes) (second_note nets its_way n.notes))
     (if way_stays nets its_way (first_note nets its_way n.notes) (second_note nets its_way n.notes) then None else r)) (by_nets nets its_way of ns)
     ∙ sym (one-noted nets its_way n ns)

@@ -10,6 +10,7 @@ use Rattle.jt_tap.specs.declared.State.TheVariants as state
 use Rattle.jt_tap.specs.declared.Work.{Work}
 use Rattle.jt_tap.specs.declared.Work.TheVariants.{Captures}
 use Rattle.jt_tap.specs.Controller.{is_at, pause, work}
+use Rattle.scan_vectors.specs.declared.failures.Mismatch.{Mismatch}
 use Rattle.scan_vectors.specs.declared.part.Part.{Part}
 use Rattle.scan_vectors.specs.Vector.{VectorBit, differs, judge, tdis}
 use Rattle.svf_programs.specs.Steps.{Numbered, Step, Scan, Go, Path, Run, Trst}
@@ -30,6 +31,7 @@ use Rattle.board_faults.specs.Together.{unlike}
 use Rattle.board_faults.proofs.OnePlay.{means, means_with, opened-members, pick, picked}
 use Rattle.board_faults.proofs.Staying.{captured-instructions, registers_differ, settle-same}
 use Rattle.fault_events.specs.Events.{Event, EventsTellOfFaults, EventsTellOfRuns, caught_at, ending_by, events, events_along, events_arriving, events_ending, events_moving, events_of_step, events_passing, first_other, reads_other, stays_other}
+use Rattle.fault_events.specs.Firsts.{firsts_by}
 use Rattle.fault_events.specs.Sources.{Source, sources, taken}
 use Rattle.fault_events.specs.Parts.{planned_parts}
 use Rattle.fault_events.proofs.PartsKept.{capture_keeps, map_keeps, move_keeps, pass_keeps, settle_keeps, shift_keeps, step_keeps, update_keeps}
@@ -66,8 +68,8 @@ scanned-count column t m = counted (shift column t (capture column m)).members m
 move-count : (s : State) (m : AtRest) → count (move_unless_there s m) ≡ count m
 move-count s m = counted (move_unless_there s m).members m.members (move_keeps s m)
 
-step-count : (step : Step) (m : AtRest) → count (after_step step m) ≡ count m
-step-count step m = counted (after_step step m).members m.members (step_keeps step m)
+pub step_count : (step : Step) (m : AtRest) → count (after_step step m) ≡ count m
+step_count step m = counted (after_step step m).members m.members (step_keeps step m)
 
 -- ---- bits and tests
 
@@ -97,6 +99,10 @@ any-both test (x ∷ xs) ys e =
 either-none : {A : Type 0} (a b : Bool) (o : Option A) → (if a then None else (if b then None else o)) ≡ (if a || b then None else o)
 either-none true b o = refl
 either-none false b o = refl
+
+either-empty : {A : Type 0} (a b : Bool) (l : List A) → (if a then [] else (if b then [] else l)) ≡ (if a || b then [] else l)
+either-empty true b l = refl
+either-empty false b l = refl
 
 -- a wanted bit that is right where these are read differs with others where they are other
 wanted-other : (w : Option Bool) (good bad : Bool) → differs w good ≡ false → differs w bad ≡ (is_some w && unlike good bad)
@@ -128,6 +134,14 @@ abbrev tell : ℕ → Option (Part × ℕ) → Option Ending → Option Ending
 tell c None rest = rest
 tell c (Some f) rest = Some (Fail c f.0 f.1)
 
+abbrev pub failed : ℕ → Part × ℕ → Mismatch
+failed c f = record { command = c; part = f.0; bit = f.1 }
+
+-- the first bit that fails, if one does, before others
+abbrev pub put_first : ℕ → Option (Part × ℕ) → List Mismatch → List Mismatch
+put_first c None rest = rest
+put_first c (Some f) rest = failed c f ∷ rest
+
 module _ (nets : List Net) where
   abbrev other : AtRest → AtRest
   other m = with_nets nets m
@@ -146,6 +160,17 @@ module _ (nets : List Net) where
       by None = refl
       by (Some f) = refl
 
+  first-lists : (e : Event) (es : List Event) → firsts_by (e ∷ es) nets ≡ put_first e.command (caught_at nets e) (if stays_other nets e then [] else firsts_by es nets)
+  first-lists e es = by (caught_at nets e)
+    where
+      by : (o : Option (Part × ℕ))
+          → (elim o as (λ _. List Mismatch) [
+            | None ↦ if stays_other nets e then [] else firsts_by es nets
+            | Some f ↦ failed e.command f ∷ (if stays_other nets e then [] else firsts_by es nets)
+          ]) ≡ put_first e.command o (if stays_other nets e then [] else firsts_by es nets)
+      by None = refl
+      by (Some f) = refl
+
   -- nothing is wanted of these
   abbrev AreQuiet : List Event → Type 0
   AreQuiet [] = ⊤
@@ -161,6 +186,13 @@ module _ (nets : List Net) where
       first-tells e (es ++ rest)
       ∙ ap₂ (λ (o : Option (Part × ℕ)) (r : Option Ending). tell e.command o (if stays_other nets e then None else r)) quiet.0 (quiet-tell es rest quiet.1)
       ∙ either-none (stays_other nets e) (stays es) (ending_by rest nets)
+
+  quiet-list : (es rest : List Event) → AreQuiet es → firsts_by (es ++ rest) nets ≡ (if stays es then [] else firsts_by rest nets)
+  quiet-list [] rest quiet = refl
+  quiet-list (e ∷ es) rest quiet =
+      first-lists e (es ++ rest)
+      ∙ ap₂ (λ (o : Option (Part × ℕ)) (r : List Mismatch). put_first e.command o (if stays_other nets e then [] else r)) quiet.0 (quiet-list es rest quiet.1)
+      ∙ either-empty (stays_other nets e) (stays es) (firsts_by rest nets)
 
   -- ---- the same bits where none is another
 
@@ -295,6 +327,9 @@ module _ (nets : List Net) where
     pub told : (rest : List Event)
         → ending_by (events_of_step c step m ++ rest) nets
         ≡ tell c (failure step (other m)) (if stays (events_of_step c step m) then None else ending_by rest nets)
+    pub listed : (rest : List Event)
+        → firsts_by (events_of_step c step m ++ rest) nets
+        ≡ put_first c (failure step (other m)) (if stays (events_of_step c step m) then [] else firsts_by rest nets)
     pub same : stays (events_of_step c step m) ≡ false → staying step m ≡ staying step (other m)
 
   scan-tells : (c : ℕ) (column : Column) (v : List VectorBit) (end : State) (m : AtRest) → count m ≡ 0 → failure (Scan column v end) m ≡ None
@@ -313,6 +348,12 @@ module _ (nets : List Net) where
             (quiet-tell last rest (ending-quiet c Dr end (shift Dr (tdis v) (capture Dr s))))
             ∙ ap (tell c (caught_at nets e)) (either-none (stays_other nets e) (stays last) (ending_by rest nets))
             ∙ ap (λ (o : Option (Part × ℕ)). tell c o (if stays (e ∷ last) then None else ending_by rest nets)) (sym caught);
+        listed = λ rest.
+            first-lists e (last ++ rest)
+            ∙ ap (λ (r : List Mismatch). put_first c (caught_at nets e) (if stays_other nets e then [] else r))
+            (quiet-list last rest (ending-quiet c Dr end (shift Dr (tdis v) (capture Dr s))))
+            ∙ ap (put_first c (caught_at nets e)) (either-empty (stays_other nets e) (stays last) (firsts_by rest nets))
+            ∙ ap (λ (o : Option (Part × ℕ)). put_first c o (if stays (e ∷ last) then [] else firsts_by rest nets)) (sym caught);
         same = λ quiet.
             let both = or-false (stays_other nets e) (stays last) quiet in
             scanning-same c Dr v end s clear (same-behind (length v) s clear both.0) both.1
@@ -329,34 +370,40 @@ module _ (nets : List Net) where
         told = λ rest.
             quiet-tell last rest (ending-quiet c Ir end (shift Ir (tdis v) (capture Ir s)))
             ∙ ap (λ (o : Option (Part × ℕ)). tell c o (if stays last then None else ending_by rest nets)) (sym fails);
+        listed = λ rest.
+            quiet-list last rest (ending-quiet c Ir end (shift Ir (tdis v) (capture Ir s)))
+            ∙ ap (λ (o : Option (Part × ℕ)). put_first c o (if stays last then [] else firsts_by rest nets)) (sym fails);
         same = λ quiet.
             scanning-same c Ir v end s clear (ap (drop (length v)) (captured-instructions nets s)) quiet
             ∙ sym (ap (λ (x : AtRest). drop (length v) (captured Ir x) ++ kept_ending Ir end (shift Ir (tdis v) (capture Ir x))) (settle-same nets m));
       }
 
-  step-tells : (c : ℕ) (step : Step) (m : AtRest) → count m ≡ 0 → failure step m ≡ None → Tells c step m
-  step-tells c (Scan column v end) m none passes = scan-tells c column v end m none passes
-  step-tells c (Go s) m none passes = record {
+  pub step_tells : (c : ℕ) (step : Step) (m : AtRest) → count m ≡ 0 → failure step m ≡ None → Tells c step m
+  step_tells c (Scan column v end) m none passes = scan-tells c column v end m none passes
+  step_tells c (Go s) m none passes = record {
     told = λ rest. quiet-tell (events_arriving c s (settle m)) rest (arriving-quiet c s (settle m));
+    listed = λ rest. quiet-list (events_arriving c s (settle m)) rest (arriving-quiet c s (settle m));
     same = go-same c s m none;
   }
-  step-tells c (Path path) m none passes = record {
+  step_tells c (Path path) m none passes = record {
     told = λ rest. quiet-tell (events_along c path m) rest (along-quiet c path m);
+    listed = λ rest. quiet-list (events_along c path m) rest (along-quiet c path m);
     same = along-same c path m none;
   }
-  step-tells c (Run run n end) m none passes =
+  step_tells c (Run run n end) m none passes =
       let next = move_unless_there run m in
       let one = events_moving c run m in
       let two = events_moving c end next in
       record {
         told = λ rest. quiet-tell (one ++ two) rest (quiet-both one two (moving-quiet c run m) (moving-quiet c end next));
+        listed = λ rest. quiet-list (one ++ two) rest (quiet-both one two (moving-quiet c run m) (moving-quiet c end next));
         same = λ quiet.
             let both = any-both (stays_other nets) one two quiet in
             let first = moving-same c run m none both.0 in
             ap₂ (λ (a b : List Bool). a ++ b) first
             (moving-same c end next (move-count run m ∙ none) both.1 ∙ sym (ap (kept_moving end) (moved-same run m first)));
       }
-  step-tells c (Trst w) m none passes = record { told = λ rest. refl; same = λ quiet. refl }
+  step_tells c (Trst w) m none passes = record { told = λ rest. refl; listed = λ rest. refl; same = λ quiet. refl }
 
 -- ---- programs
 
@@ -371,8 +418,8 @@ pub record Passing (s : Numbered) (ss : List Numbered) (m : AtRest) : Type 0 whe
   pub first : failure s.what m ≡ None
   pub others : (outcome ss (after_step s.what m)).ending ≡ Pass
 
-pass-parts : (s : Numbered) (ss : List Numbered) (m : AtRest) → (outcome (s ∷ ss) m).ending ≡ Pass → Passing s ss m
-pass-parts s ss m e = by (failure s.what m) refl (sym (picked s ss m) ∙ e)
+pub pass_parts : (s : Numbered) (ss : List Numbered) (m : AtRest) → (outcome (s ∷ ss) m).ending ≡ Pass → Passing s ss m
+pass_parts s ss m e = by (failure s.what m) refl (sym (picked s ss m) ∙ e)
   where
     by : (o : Option (Part × ℕ)) → failure s.what m ≡ o → pick s.number o (outcome ss (after_step s.what m)).ending ≡ Pass → Passing s ss m
     by None is h = record { first = is; others = h }
@@ -386,10 +433,10 @@ runs-told : (nets : List Net) (ending : Ending) (steps : List Numbered) (m : AtR
     → ending_by (events steps m) nets ≡ Some ending → (outcome steps (with_nets nets m)).ending ≡ ending
 runs-told nets ending [] m none passes e = some-same Pass ending e
 runs-told nets ending (s ∷ ss) m none passes e =
-    let its = pass-parts s ss m passes in
-    let tells = step-tells nets s.number s.what m none its.first in
+    let its = pass_parts s ss m passes in
+    let tells = step_tells nets s.number s.what m none its.first in
     let after = after_step s.what m in
-    let later = runs-told nets ending ss after (step-count s.what m ∙ none) its.others in
+    let later = runs-told nets ending ss after (step_count s.what m ∙ none) its.others in
     by (failure s.what (with_nets nets m)) refl (list_any (stays_other nets) (events_of_step s.number s.what m)) refl later tells.same
     (sym (tells.told (events ss after)) ∙ e)
   where
@@ -417,10 +464,12 @@ runs_are_told steps m none passes nets ending e = runs-told nets ending steps m 
 
 -- ---- from power-up
 
+pub opened_count : (w : planned.Wiring) → strings (members_of w) ≡ 0 → count (opened_state (board_of w)) ≡ 0
+opened_count w none =
+    ap strings (opened-members w.nets (members_of w)) ∙ counted (map reset_member (members_of w)) (members_of w) (map_keeps reset_member (λ x. refl) (members_of w)) ∙ none
+
 pub faults_are_told : EventsTellOfFaults
 faults_are_told program legal w sound none passes its_way ending e =
-    let opened : count (opened_state (board_of w)) ≡ 0 =
-    ap strings (opened-members w.nets (members_of w)) ∙ counted (map reset_member (members_of w)) (members_of w) (map_keeps reset_member (λ x. refl) (members_of w)) ∙ none in
     means_with program legal w sound its_way
-    ∙ runs-told (with_way its_way w.nets) ending program.steps (opened_state (board_of w)) opened
+    ∙ runs-told (with_way its_way w.nets) ending program.steps (opened_state (board_of w)) (opened_count w none)
     (sym (means program legal w sound) ∙ passes) e

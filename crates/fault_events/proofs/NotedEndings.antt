@@ -102,9 +102,9 @@ net-notes f [] k = refl
 net-notes f (n ∷ nets) zero = take-map f n.pins (all_pins nets)
 net-notes f (n ∷ nets) (suc k) = ap (notes_of nets k) (drop-map f n.pins (all_pins nets)) ∙ net-notes f nets k
 
-first-noted : (nets : List Net) (its_way : Way) (ms : List Member) (v : List VectorBit)
+pub first_noted : (nets : List Net) (its_way : Way) (ms : List Member) (v : List VectorBit)
     → first_note nets its_way (noted (all_pins nets) ms v) ≡ note_in ms v (first_pins nets its_way)
-first-noted nets its_way ms v = by its_way
+first_noted nets its_way ms v = by its_way
   where
     whole : (k : ℕ) → all_of (notes_of nets k (noted (all_pins nets) ms v)) ≡ note_in ms v (net_at nets k).pins
     whole k = ap all_of (net-notes (λ p. note_in ms v (p ∷ [])) nets k) ∙ together-noted ms v (net_at nets k).pins
@@ -118,20 +118,20 @@ first-noted nets its_way ms v = by its_way
     by (way.Stuck net bit) = whole net
     by (way.Short first second winner) = whole first
 
-second-noted : (nets : List Net) (its_way : Way) (ms : List Member) (v : List VectorBit)
+pub second_noted : (nets : List Net) (its_way : Way) (ms : List Member) (v : List VectorBit)
     → second_note nets its_way (noted (all_pins nets) ms v) ≡ note_in ms v (second_pins nets its_way)
-second-noted nets (way.Open net pin bit) ms v =
+second_noted nets (way.Open net pin bit) ms v =
     ap (λ (l : List Note). all_of (remove l pin)) (net-notes (λ p. note_in ms v (p ∷ [])) nets net)
     ∙ ap all_of (remove-map (λ p. note_in ms v (p ∷ [])) (net_at nets net).pins pin)
     ∙ together-noted ms v (remove (net_at nets net).pins pin)
-second-noted nets (way.Pull net) ms v = together-noted ms v []
-second-noted nets (way.Stuck net bit) ms v = together-noted ms v []
-second-noted nets (way.Short first second winner) ms v =
+second_noted nets (way.Pull net) ms v = together-noted ms v []
+second_noted nets (way.Stuck net bit) ms v = together-noted ms v []
+second_noted nets (way.Short first second winner) ms v =
     ap all_of (net-notes (λ p. note_in ms v (p ∷ [])) nets second) ∙ together-noted ms v (net_at nets second).pins
 
 -- ---- the nets stay
 
-abbrev AllOn : List Net → List Event → Type 0
+abbrev pub AllOn : List Net → List Event → Type 0
 AllOn nets [] = ⊤
 AllOn nets (e ∷ es) = (e.board.nets ≡ nets) × AllOn nets es
 
@@ -228,11 +228,11 @@ module _ (nets : List Net) where
       (moving-on c end (move_unless_there run m) (move-nets run m ∙ e))
   step-on c (Trst w) m e = tt
 
-  all-on : (steps : List Numbered) (m : AtRest) → m.nets ≡ nets → AllOn nets (events steps m)
-  all-on [] m e = tt
-  all-on (s ∷ ss) m e =
+  pub all_on : (steps : List Numbered) (m : AtRest) → m.nets ≡ nets → AllOn nets (events steps m)
+  all_on [] m e = tt
+  all_on (s ∷ ss) m e =
       on-both nets (events_of_step s.number s.what m) (events ss (after_step s.what m)) (step-on s.number s.what m e)
-      (all-on ss (after_step s.what m) (step-nets s.what m ∙ e))
+      (all_on ss (after_step s.what m) (step-nets s.what m ∙ e))
 
 -- ---- the ending
 
@@ -276,8 +276,8 @@ same-ending w may its_way its (e ∷ es) on =
     let one = note_of e (first_pins nets its_way) in
     let two = note_of e (second_pins nets its_way) in
     let n = noted_at (all_pins nets) e in
-    let first : first_note nets its_way n.notes ≡ one = first-noted nets its_way e.board.members e.vector in
-    let second : second_note nets its_way n.notes ≡ two = second-noted nets its_way e.board.members e.vector in
+    let first : first_note nets its_way n.notes ≡ one = first_noted nets its_way e.board.members e.vector in
+    let second : second_note nets its_way n.notes ≡ two = second_noted nets its_way e.board.members e.vector in
     by-first e es (with_way its_way nets) (way_first nets its_way one two) (way_stays nets its_way one two) tells.0 tells.1
     ∙ ap (λ (r : Option Ending). told e.command (way_first nets its_way one two) (if way_stays nets its_way one two then None else r)) (same-ending w may its_way its es on.1)
     ∙ ap₂ (λ (a b : Note). told e.command (way_first nets its_way a b) (if way_stays nets its_way a b then None else ending_noted nets its_way (map (noted_at (all_pins nets)) es))) (sym first) (sym second)
@@ -286,4 +286,4 @@ same-ending w may its_way its (e ∷ es) on =
 pub noted_faults : NotesTellOfFaults
 noted_faults program legal w sound may none passes its_way its ending e =
     faults_are_told program legal w sound none passes its_way ending
-    (same-ending w may its_way its (events program.steps (opened_state (board_of w))) (all-on w.nets program.steps (opened_state (board_of w)) refl) ∙ e)
+    (same-ending w may its_way its (events program.steps (opened_state (board_of w))) (all_on w.nets program.steps (opened_state (board_of w)) refl) ∙ e)

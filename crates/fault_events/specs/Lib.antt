@@ -3,6 +3,7 @@ pub mod Captures
 pub mod Drives
 pub mod Endings
 pub mod Events
+pub mod Firsts
 pub mod Marks
 pub mod Nets
 pub mod Notes

@@ -5,6 +5,7 @@ use Rattle.jt_tap.specs.declared.Column.TheVariants.{Dr, Ir}
 use Rattle.jt_tap.specs.declared.State.TheVariants.{Idle, DrPause}
 use Rattle.bsdl_device.specs.Device.{Device}
 use Rattle.bsdl_device.specs.declared.Function.TheVariants.{Output2, Input}
+use Rattle.scan_vectors.specs.declared.failures.Mismatch.{Mismatch}
 use Rattle.scan_vectors.specs.declared.part.Part.TheVariants.{Data}
 use Rattle.scan_vectors.specs.Vector.{VectorBit}
 use Rattle.svf_programs.specs.Steps.{Numbered, Step, Scan, Go}
@@ -17,6 +18,7 @@ use Rattle.board_model.specs.Whole.{AtRest}
 use Rattle.play_model.specs.declared.ending.Ending.{Ending}
 use Rattle.play_model.specs.declared.ending.Ending.TheVariants.{Pass, Fail}
 use Rattle.fault_events.specs.Events.{ending_by, events}
+use Rattle.fault_events.specs.Firsts.{firsts_by}
 use Rattle.fault_events.specs.Sources.{Fixed, Seen, sources}
 
 -- one instruction bit: EXTEST 0, BYPASS 1
@@ -71,13 +73,20 @@ abbrev pub wants : ℕ → List (Option Bool) → List VectorBit
 wants k [] = []
 wants k (w ∷ ws) = record { tdi = true; wanted = w; part = Data; place = k } ∷ wants (suc k) ws
 
+abbrev pub numbered : ℕ → List Step → List Numbered
+numbered k [] = []
+numbered k (s ∷ ss) = record { number = k; what = s } ∷ numbered (suc k) ss
+
 -- how these steps end where the net is stuck
 abbrev pub stuck : Bool → List Step → Option Ending
 stuck bit steps = ending_by (events (numbered 3 steps) board) (net (Tied bit))
-  where
-    numbered : ℕ → List Step → List Numbered
-    numbered k [] = []
-    numbered k (s ∷ ss) = record { number = k; what = s } ∷ numbered (suc k) ss
+
+-- what a play of these steps to the end would list first at each capture there, as far as that is told
+abbrev pub stuck_firsts : Bool → List Step → List Mismatch
+stuck_firsts bit steps = firsts_by (events (numbered 3 steps) board) (net (Tied bit))
+
+abbrev pub failed : (command : ℕ) → Mismatch
+failed command = record { command = command; part = Data; bit = 1 }
 
 -- a scan of all cells, of the first two, of the first alone
 abbrev pub whole : Step
@@ -102,3 +111,7 @@ pub record EventRows : Type 0 where
   pub stays_in_a_pause : stuck false (Go DrPause ∷ whole ∷ []) ≡ None
   -- an instruction's capture hangs on no net
   pub instruction : stuck false (Scan Ir (wants 0 (Some true ∷ [])) Idle ∷ []) ≡ Some Pass
+  -- one bit of each capture, up to one of which a bit stays
+  pub firsts : stuck_firsts false (whole ∷ whole ∷ []) ≡ failed 3 ∷ failed 4 ∷ []
+  pub firsts_up_to : stuck_firsts false (whole ∷ most ∷ whole ∷ []) ≡ failed 3 ∷ failed 4 ∷ []
+  pub none_first : stuck_firsts true (whole ∷ whole ∷ []) ≡ []

@@ -18,7 +18,7 @@ pub struct Pulls {
 }
 
 /// The least wanted bit that is another where a fault shows in a way, by what is noted of both groups of pins.
-pub(crate) fn first_other(way: Way, pulls: Pulls, one: Note, two: Note) -> Option<Spot>
+pub fn first_other(way: Way, pulls: Pulls, one: Note, two: Note) -> Option<Spot>
     ensures { result ≡ spec_pulls.first_by way pulls one two }
 {
     let first = first_sees(way, pulls, one.made, two.made);
@@ -27,7 +27,7 @@ pub(crate) fn first_other(way: Way, pulls: Pulls, one: Note, two: Note) -> Optio
 }
 
 /// Whether a bit that stays is another.
-pub(crate) fn stays_other(way: Way, pulls: Pulls, one: Note, two: Note) -> bool
+pub fn stays_other(way: Way, pulls: Pulls, one: Note, two: Note) -> bool
     ensures { result ≡ spec_pulls.stays_by way pulls one two }
 {
     (one.stays && first_sees(way, pulls, one.made, two.made))

@@ -16,7 +16,7 @@ mod tables;
 mod ways;
 
 pub use captures::{Capture, Captures, start_play};
-pub use differing::Pulls;
+pub use differing::{Pulls, first_other, stays_other};
 pub use laws::{
     captures_may_be_cut, captures_take_from_sources, events_compute, events_tell_of_faults,
     events_tell_of_runs, notes_tell_of_faults, notes_tell_of_ways,

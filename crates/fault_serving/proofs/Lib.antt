@@ -1,3 +1,5 @@
+pub mod Firsts
+pub mod Listing
 pub mod OnePlay
 pub mod Plain
 pub mod Putting

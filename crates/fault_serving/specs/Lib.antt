@@ -1,3 +1,4 @@
+pub mod Firsts
 pub mod Planes
 pub mod Rows
 pub mod Serving

@@ -2,21 +2,24 @@
 use Rattle.std.specs.Prelude.{⊤, ◌≡◌, ◌≤◌, Bool, true, false, List, [], ◌∷◌, ◌++◌, flat_map, length, map}
 use Rattle.std.specs.Prelude.{Option, Some, None}
 use Rattle.std.specs.List.{AllByRecursion}
+use Rattle.scan_vectors.specs.declared.failures.Mismatch.{Mismatch}
 use Rattle.svf_programs.specs.Steps.{Program}
 use Rattle.pin_nets.specs.Wired.{Net}
 use Rattle.board_plan.specs.Planned.{Wiring}
 use Rattle.play_model.specs.declared.ending.Ending.{Ending}
 use Rattle.play_model.specs.declared.ending.Ending.TheVariants.{Pass}
 use Rattle.play_model.specs.Play.{play}
+use Rattle.play_direct.specs.ToTheEnd.{all_failures}
 use Rattle.board_faults.specs.declared.kinds.Fault.{Fault}
 use Rattle.board_faults.specs.declared.kinds.Way.{Way}
 use Rattle.board_faults.specs.Faults.{IsFaultOf, ways}
-use Rattle.board_faults.specs.Judging.{HasMeaning, HasNoStrings, ending_with}
+use Rattle.board_faults.specs.Judging.{HasMeaning, HasNoStrings, ending_with, wiring_with}
 use Rattle.board_faults.specs.Listing.{AreNext}
 use Rattle.board_faults.specs.Made.{board_of}
 use Rattle.fault_events.specs.Blocks.{IsBlock, noted_in}
 use Rattle.fault_events.specs.Captures.{Noted, captures}
 use Rattle.fault_events.specs.Endings.{and_then, ending_noted}
+use Rattle.fault_serving.specs.Firsts.{HasOther}
 use Rattle.fault_events.specs.Nets.{seen, with_nets_noted}
 use Rattle.fault_serving.specs.declared.planing.NoteWords.{NoteWords}
 use Rattle.fault_serving.specs.declared.serving.Chunk.{Chunk}
@@ -94,3 +97,9 @@ pub record IsChunk (program : Program) (w : Wiring) (left : List Fault) (c : Chu
   pub theirs : AllByRecursion (IsFaultOf w.nets) c.faults.items
   pub others : AllByRecursion (IsFaultOf w.nets) rest
   pub told : AreTold program w (flat_map ways c.faults.items) c.endings.items
+
+-- ---- plays to the end
+
+-- one of the bits that the play to the end lists where a fault shows in a way is none of these
+abbrev pub ListsOther : Program → Wiring → Way → List Mismatch → Type 0
+ListsOther program w way bits = HasOther bits (all_failures program (board_of (wiring_with way w)))

@@ -5,11 +5,13 @@
 
 ghost use Rattle.fault_serving.specs.Rows.{ServingRows};
 
+mod listing;
 mod planing;
 mod serving;
 mod sifting;
 mod words;
 
+pub use listing::{firsts_are_failures, may_list, others_are_told};
 pub use planing::NoteWords;
 pub use serving::{
     Chunk, Serving, Telling, ending_on, next_chunk, serving_of, told_at, told_behind,

@@ -3,6 +3,7 @@ pub mod Cutting
 pub mod Ends
 pub mod Giving
 pub mod Left
+pub mod Listing
 pub mod NumberLaws
 pub mod Tests
 pub mod ToldFits

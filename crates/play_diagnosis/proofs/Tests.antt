@@ -8,8 +8,9 @@ use Rattle.scan_vectors.specs.declared.part.Part.TheVariants.{Header, Data, Trai
 use Rattle.scan_vectors.specs.Failures.{Found}
 use Rattle.play_model.specs.declared.ending.Ending.{Ending}
 use Rattle.play_model.specs.declared.ending.Ending.TheVariants.{Pass, Fail, Lost, BadAnswer}
-use Rattle.play_diagnosis.specs.Ended.{are_same, is_first, is_pass, is_same_bit, same_bits}
-use Rattle.play_diagnosis.specs.Reading.{is_part}
+use Rattle.fault_serving.specs.Firsts.{is_part, is_same_bit}
+use Rattle.fault_serving.proofs.Firsts.{bit_is, both, number_is, part_is}
+use Rattle.play_diagnosis.specs.Ended.{are_same, is_first, is_pass, same_bits}
 
 and-true : (a b : Bool) → (a && b) ≡ true → (a ≡ true) × (b ≡ true)
 and-true true b h = (refl, h)
@@ -26,30 +27,14 @@ same-part Trailer Header h = absurd cc
 same-part Trailer Data h = absurd cc
 same-part Trailer Trailer h = refl
 
-part-is : (a : Part) → is_part a a ≡ true
-part-is Header = refl
-part-is Data = refl
-part-is Trailer = refl
-
 same-number : (a b : ℕ) → (a == b) ≡ true → a ≡ b
 same-number a b h = grind (arith, nat_tests)
-
-number-is : (a : ℕ) → (a == a) ≡ true
-number-is a = grind (arith, nat_tests)
-
-both : (a b : Bool) → a ≡ true → b ≡ true → (a && b) ≡ true
-both true true p q = refl
-both true false p q = absurd cc
-both false b p q = absurd cc
 
 same-bit : (m n : Mismatch) → is_same_bit m n ≡ true → m ≡ n
 same-bit m n holds =
     let one = and-true (m.command == n.command) (is_part m.part n.part && m.bit == n.bit) holds in
     let two = and-true (is_part m.part n.part) (m.bit == n.bit) one.1 in
     (λ i. record { command = same-number m.command n.command one.0 i; part = same-part m.part n.part two.0 i; bit = same-number m.bit n.bit two.1 i })
-
-bit-is : (m : Mismatch) → is_same_bit m m ≡ true
-bit-is m = both (m.command == m.command) (is_part m.part m.part && m.bit == m.bit) (number-is m.command) (both (is_part m.part m.part) (m.bit == m.bit) (part-is m.part) (number-is m.bit))
 
 same-list : (ms ns : List Mismatch) → same_bits ms ns ≡ true → ms ≡ ns
 same-list [] [] holds = refl
@@ -61,13 +46,13 @@ same-list (m ∷ ms) (n ∷ ns) holds =
 
 list-is : (ms : List Mismatch) → same_bits ms ms ≡ true
 list-is [] = refl
-list-is (m ∷ ms) = both (is_same_bit m m) (same_bits ms ms) (bit-is m) (list-is ms)
+list-is (m ∷ ms) = both (is_same_bit m m) (same_bits ms ms) (bit_is m) (list-is ms)
 
 pub founds : (f g : Found) → IsTrue (are_same f g) ↔ (f ≡ g)
 founds f g = (to, λ is. ap (λ (h : Found). are_same f h) (sym is) ∙ own)
   where
     own : are_same f f ≡ true
-    own = both (f.total == f.total) (same_bits f.list f.list) (number-is f.total) (list-is f.list)
+    own = both (f.total == f.total) (same_bits f.list f.list) (number_is f.total) (list-is f.list)
 
     to : are_same f g ≡ true → f ≡ g
     to holds =
@@ -98,5 +83,5 @@ firsts m (Fail command part bit) = (to, from)
         let p : part ≡ m.part = cc in
         let b : bit ≡ m.bit = cc in
         both (command == m.command) (is_part part m.part && bit == m.bit)
-        (ap (λ (x : ℕ). x == m.command) c ∙ number-is m.command)
-        (both (is_part part m.part) (bit == m.bit) (ap (λ (x : Part). is_part x m.part) p ∙ part-is m.part) (ap (λ (x : ℕ). x == m.bit) b ∙ number-is m.bit))
+        (ap (λ (x : ℕ). x == m.command) c ∙ number_is m.command)
+        (both (is_part part m.part) (bit == m.bit) (ap (λ (x : Part). is_part x m.part) p ∙ part_is m.part) (ap (λ (x : ℕ). x == m.bit) b ∙ number_is m.bit))

@@ -4,7 +4,8 @@ use Rattle.scan_vectors.specs.declared.failures.Mismatch.{Mismatch}
 use Rattle.scan_vectors.specs.Failures.{Found}
 use Rattle.play_model.specs.declared.ending.Ending.{Ending}
 use Rattle.play_model.specs.declared.ending.Ending.TheVariants.{Pass, Fail}
-use Rattle.play_diagnosis.specs.Reading.{Verdict, Passes, Stops, PlaysOn, is_part}
+use Rattle.fault_serving.specs.Firsts.{is_part, is_same_bit}
+use Rattle.play_diagnosis.specs.Reading.{Verdict, Passes, Stops, PlaysOn}
 
 abbrev pub is_pass : Ending → Bool
 is_pass Pass = true
@@ -31,9 +32,6 @@ by_told said None = None
 by_told said (Some ending) = by_ending said ending
 
 -- ---- lists of failures
-
-abbrev pub is_same_bit : Mismatch → Mismatch → Bool
-is_same_bit m n = m.command == n.command && (is_part m.part n.part && m.bit == n.bit)
 
 abbrev pub same_bits : List Mismatch → List Mismatch → Bool
 same_bits [] [] = true

@@ -3,11 +3,10 @@ use Rattle.std.specs.Prelude.{Bool, true, false, not, ◌&&◌, ◌||◌, ◌==�
 use Rattle.std.specs.Prelude.{nat_le, nat_lt, Option, Some, None, is_some, Result, Ok, Err, if◌then◌else◌}
 use Rattle.std.specs.List.{list_any, slice_split}
 use Rattle.scan_vectors.specs.declared.failures.Mismatch.{Mismatch}
-use Rattle.scan_vectors.specs.declared.part.Part.{Part}
-use Rattle.scan_vectors.specs.declared.part.Part.TheVariants.{Header, Data, Trailer}
 use Rattle.scan_vectors.specs.Failures.{Found, found}
 use Rattle.scan_vectors.specs.Vector.{VectorBit}
 use Rattle.svf_programs.specs.Steps.{Numbered, Program, Scan, Step}
+use Rattle.fault_serving.specs.Firsts.{is_part}
 use Rattle.play_diagnosis.specs.declared.lines.Line.{Line}
 use Rattle.play_diagnosis.specs.declared.lines.Line.TheVariants as line
 use Rattle.play_diagnosis.specs.declared.reading.LogFault.{LogFault}
@@ -32,12 +31,6 @@ verdict_of (said.First bit) = Stops bit
 verdict_of (said.All failures) = PlaysOn (found failures)
 
 -- ---- the bits of a program
-
-abbrev pub is_part : Part → Part → Bool
-is_part Header Header = true
-is_part Data Data = true
-is_part Trailer Trailer = true
-is_part _ _ = false
 
 abbrev pub is_bit_of : Mismatch → VectorBit → Bool
 is_bit_of m b = is_part b.part m.part && b.place == m.bit

@@ -8,7 +8,7 @@ ghost use Rattle.board_plan.specs.View.{wiring};
 ghost use Rattle.board_faults.specs.Faults.{IsFaultOf, faults, ways};
 ghost use Rattle.board_faults.specs.Faulty.{CanBeJudged};
 ghost use Rattle.board_faults.specs.Made.{IsReadyPlan};
-ghost use Rattle.fault_serving.specs.Serving.{AreTold};
+ghost use Rattle.fault_serving.specs.Serving.{AreTold, MayServe};
 ghost use Rattle.fault_serving.specs.Written.{Tells};
 ghost use Rattle.play_diagnosis.specs.Benches.{IsBench};
 ghost use Rattle.play_diagnosis.specs.Diagnosis as spec;
@@ -22,7 +22,7 @@ use board_description::Untold;
 use board_faults::{Fault, Faults, bench_of};
 use board_plan::Plan;
 use byte_streams::{Counted, Sink, put_all};
-use fault_serving::{Chunk, next_chunk, put_fault, put_way, serving_of, told_behind};
+use fault_serving::{Chunk, Serving, next_chunk, put_fault, put_way, serving_of, told_behind};
 use output_words::{Status, put};
 use play_model::Ending;
 use std::alloc::{AllocError, Global};
@@ -36,8 +36,8 @@ use svf_programs::Program;
 /// told, and each that is told gives this very log.
 ///
 /// Everything is made before the first byte is written, so nothing is where memory runs out. It asks that the plan is
-/// ready, as those are that board files make. One play of the program tells of most ways how they end; only those that
-/// begin as the log does are played to their end.
+/// ready, as those are that board files make. One play of the program tells of most ways how they end, and of bridges
+/// which bits fail; only those that begin as the log does, and fail at no other bit by that, are played to their end.
 pub fn write_diagnosis<W: Sink>(
     alloc: Global,
     plan: &Plan,
@@ -120,7 +120,9 @@ fn tell_faults(
         if chunk.faults.is_empty() {
             return Ok(text);
         }
-        tell_chunk(alloc, &mut bench, plan, program, said, &chunk, &mut text)?;
+        tell_chunk(
+            alloc, &mut bench, plan, program, said, &serving, &chunk, &mut text,
+        )?;
     }
 }
 
@@ -131,11 +133,13 @@ fn tell_chunk(
     plan: &Plan,
     program: &Program,
     said: &Said,
+    serving: &Serving,
     chunk: &Chunk,
     text: &mut Vec<u8>,
 ) -> Result<(), AllocError>
     requires may { CanBeJudged (wiring plan.now) }
     requires bench { IsBench (wiring plan.now) bench.old }
+    requires serving { MayServe (program_of program.now) (wiring plan.now) serving.now }
     requires faults { AllByRecursion (IsFaultOf (wiring plan.now).nets) chunk.now.faults.items }
     requires told { AreTold (program_of program.now) (wiring plan.now) (flat_map ways chunk.now.faults.items)
         chunk.now.endings.items }
@@ -145,7 +149,9 @@ fn tell_chunk(
 {
     let mut told = chunk.endings.as_slice();
     for fault in &chunk.faults {
-        tell_fault(alloc, bench, plan, program, said, *fault, told, text)?;
+        tell_fault(
+            alloc, bench, plan, program, said, serving, *fault, told, text,
+        )?;
         told = told_behind(told, fault.way_count());
     }
     Ok(())
@@ -158,19 +164,21 @@ fn tell_fault(
     plan: &Plan,
     program: &Program,
     said: &Said,
+    serving: &Serving,
     fault: Fault,
     told: &[Option<Ending>],
     text: &mut Vec<u8>,
 ) -> Result<(), AllocError>
     requires may { CanBeJudged (wiring plan.now) }
     requires bench { IsBench (wiring plan.now) bench.old }
+    requires serving { MayServe (program_of program.now) (wiring plan.now) serving.now }
     requires fault { IsFaultOf (wiring plan.now).nets fault }
     requires told { AreTold (program_of program.now) (wiring plan.now) (ways fault) told.now }
     ensures bench { OnOk result (IsBench (wiring plan.now) bench.new) }
     ensures tells { OnOk result (PutsFault (verdict_of said.now) (program_of program.now) (wiring plan.now) fault
         text.old.items text.new.items) }
 {
-    let ways = try_fault(alloc, bench, plan, program, said, fault, told)?;
+    let ways = try_fault(alloc, bench, plan, program, said, serving, fault, told)?;
     put_line(text, plan, fault, &ways)?;
     Ok(())
 }

@@ -1,24 +1,24 @@
 //! Which ways in which a board's faults may show give just what a log says.
 
-ghost use Rattle.std.specs.Prelude.{◌↔◌, map, IfOk, IsTrue, OnOk};
+ghost use Rattle.std.specs.Prelude.{◌≡◌, ◌↔◌, false, length, map, true, IfOk, IsTrue, OnOk};
 ghost use Rattle.svf_programs.specs.Sizes.{program_of};
 ghost use Rattle.board_loops.specs.Depending.{wired};
 ghost use Rattle.board_plan.specs.View.{net as planned_net, wiring};
 ghost use Rattle.board_faults.specs.Faults.{IsFaultOf, IsWayOf, ways};
-ghost use Rattle.board_faults.specs.Faulty.{CanBeJudged, SameDevices, Wires};
-ghost use Rattle.fault_serving.specs.Serving.{AreTold, IsToldOf};
+ghost use Rattle.board_faults.specs.Faulty.{CanBeJudged, SameDevices};
+ghost use Rattle.fault_serving.specs.Serving.{AreTold, IsToldOf, MayServe};
 ghost use Rattle.play_diagnosis.specs.Benches.{IsBench};
 ghost use Rattle.play_diagnosis.specs.Fitting.{Fits, Gives, TriesFault};
 ghost use Rattle.play_diagnosis.specs.Reading.{verdict_of};
 
 use crate::endings::{are_same, by_told, is_first, is_pass};
 use crate::reading::Said;
-use board_faults::{Board, Fault, Way, nets_with, play_program};
-use board_loops::{Settling, settle_strings};
+use board_faults::{Board, Fault, Way, play_program, wire_way};
 use board_plan::{Plan, PlannedNet};
-use fault_serving::told_at;
+use fault_serving::{Serving, may_list, told_at};
 use play_direct::play_program_all;
 use play_model::Ending;
+use scan_vectors::Failures;
 use std::alloc::{AllocError, Global};
 use svf_programs::Program;
 
@@ -31,18 +31,21 @@ pub struct TriedWay {
 
 /// Of a fault of a planned board's nets (asked) each way in which it may show, and whether that gives just what a log
 /// says: its play from power-up does, and the board with it has a meaning. Given are the board once more, to be wired
-/// with each way, and how the program ends in these ways as far as that is told (asked). Refused where memory runs out.
+/// with each way, what one play tells, and how the program ends in these ways as far as that is told (asked). Refused
+/// where memory runs out.
 pub(crate) fn try_fault(
     alloc: Global,
     bench: &mut Plan,
     plan: &Plan,
     program: &Program,
     said: &Said,
+    serving: &Serving,
     fault: Fault,
     told: &[Option<Ending>],
 ) -> Result<Vec<TriedWay>, AllocError>
     requires may { CanBeJudged (wiring plan.now) }
     requires bench { IsBench (wiring plan.now) bench.old }
+    requires serving { MayServe (program_of program.now) (wiring plan.now) serving.now }
     requires fault { IsFaultOf (wiring plan.now).nets fault }
     requires told { AreTold (program_of program.now) (wiring plan.now) (ways fault) told.now }
     ensures bench { OnOk result (IsBench (wiring plan.now) bench.new) }
@@ -52,7 +55,8 @@ pub(crate) fn try_fault(
     let mut ways = Vec::with_capacity(alloc, 4)?;
     let mut k = 0;
     while let Some(way) = fault.way(k) {
-        let fits = fits(alloc, bench, plan, program, said, way, told_at(told, k))?;
+        let told = told_at(told, k);
+        let fits = fits(alloc, bench, plan, program, said, serving, way, told)?;
         ways.push(TriedWay { way, fits })?;
         k += 1;
     }
@@ -66,21 +70,50 @@ fn fits(
     plan: &Plan,
     program: &Program,
     said: &Said,
+    serving: &Serving,
     way: Way,
     told: Option<Ending>,
 ) -> Result<bool, AllocError>
     requires may { CanBeJudged (wiring plan.now) }
     requires bench { IsBench (wiring plan.now) bench.old }
+    requires serving { MayServe (program_of program.now) (wiring plan.now) serving.now }
     requires way { IsWayOf (wiring plan.now).nets way }
     requires told { IsToldOf (program_of program.now) (wiring plan.now) way told }
     ensures bench { OnOk result (IsBench (wiring plan.now) bench.new) }
     ensures fits { IfOk result
         (λ b. IsTrue b ↔ Fits (verdict_of said.now) (program_of program.now) (wiring plan.now) way) }
 {
-    match by_told(said, told) {
-        Some(fits) => Ok(fits),
-        None => played_fit(alloc, bench, &plan.nets, program, said, way),
+    if let Some(fits) = by_told(said, told) {
+        return Ok(fits);
     }
+    if !may_fit(serving, plan, program, said, way) {
+        return Ok(false);
+    }
+    played_fit(alloc, bench, &plan.nets, program, said, way)
+}
+
+/// Whether a way may give what a log says, as far as one play of the board tells which bits fail: not where one does
+/// that is not among all that the log lists.
+fn may_fit(serving: &Serving, plan: &Plan, program: &Program, said: &Said, way: Way) -> bool
+    requires may { CanBeJudged (wiring plan.now) }
+    requires serving { MayServe (program_of program.now) (wiring plan.now) serving.now }
+    requires way { IsWayOf (wiring plan.now).nets way }
+    ensures { result ≡ false → Fits (verdict_of said.now) (program_of program.now) (wiring plan.now) way → ⊥ }
+{
+    let Said::All(failures) = said else {
+        return true;
+    };
+    if !lists_all(failures) {
+        return true;
+    }
+    may_list(serving, plan, program, way, failures.list.as_slice())
+}
+
+/// Whether all failures are listed.
+fn lists_all(failures: &Failures) -> bool
+    ensures { result ≡ true → failures.now.total ≡ length failures.now.list.items }
+{
+    failures.total == failures.list.len() as u64
 }
 
 /// Whether a way of a fault of these nets (asked) gives just what a log says, by the play of the program from power-up
@@ -104,31 +137,6 @@ fn played_fit(
     }
     let mut board = Board::powered_up(alloc, bench)?;
     Ok(gives(said, program, &mut board))
-}
-
-/// Gives a bench the nets where a fault of these (asked) shows in a way, and an order of its strings. Answers whether
-/// there is one: else the board has no meaning. Refused where memory runs out.
-fn wire_way(
-    alloc: Global,
-    bench: &mut Plan,
-    nets: &[PlannedNet],
-    way: Way,
-) -> Result<bool, AllocError>
-    requires may { CanBeJudged (wired nets.now bench.old.devices.items) }
-    requires way { IsWayOf (map planned_net nets.now) way }
-    ensures same { OnOk result (SameDevices bench.old bench.new) }
-    ensures wires { IfOk result (Wires (wired nets.now bench.old.devices.items) way bench.new) }
-{
-    let faulty = nets_with(alloc, nets, way)?;
-    let settling = settle_strings(alloc, &faulty, &bench.devices)?;
-    match settling {
-        Settling::Loop(_) => Ok(false),
-        Settling::Order(order) => {
-            bench.nets = faulty;
-            bench.order = order;
-            Ok(true)
-        }
-    }
 }
 
 /// Whether the play of a program on a board gives just what a log says.

@@ -11,4 +11,7 @@ returns c = record {
   stays = refl;
   stays_in_a_pause = refl;
   instruction = refl;
+  firsts = refl;
+  firsts_up_to = refl;
+  none_first = refl;
 }

@@ -5,8 +5,8 @@ use Rattle.scan_vectors.specs.contracts.part.Part.{the_type}
 use Rattle.scan_vectors.specs.declared.failures.Mismatch.{Mismatch}
 use Rattle.scan_vectors.specs.declared.part.Part.{Part}
 use Rattle.scan_vectors.specs.declared.part.Part.TheVariants.{Header, Data, Trailer}
-use Rattle.play_diagnosis.specs.Ended.{is_same_bit, same_bits}
-use Rattle.play_diagnosis.specs.Reading.{is_part}
+use Rattle.fault_serving.specs.Firsts.{is_part, is_same_bit}
+use Rattle.play_diagnosis.specs.Ended.{same_bits}
 use Rattle.play_diagnosis.proofs.endings.same_bits.Goals as goal
 
 each-same : (E : Mismatch → Mismatch → Bool) → ((a b : Mismatch) → E a b ≡ is_same_bit a b) → (xs ys : List Mismatch) → pointwise E xs ys ≡ same_bits xs ys
