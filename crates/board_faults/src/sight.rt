@@ -268,7 +268,9 @@ pub fn bridge_shows(
 {
     let one = seen_at(sights, first);
     let other = seen_at(sights, second);
-    pairs_show(winner, pull_at(nets, first), pull_at(nets, second), one, other)
+    let pull = pull_at(nets, first);
+    let other_pull = pull_at(nets, second);
+    pairs_show(winner, pull, other_pull, one, other)
 }
 
 /// Whether some pair of what the pins of two nets with these pulls can make is seen otherwise with a bridge of them, by a

@@ -105,7 +105,7 @@ firsts-fail nets x (s ∷ ss) m none passes among =
         → (list_any (stays_other nets) (events_of_step s.number s.what m) ≡ false → staying s.what m ≡ staying s.what (with_nets nets m))
         → (IsAmong x (later nets s ss m) → IsAmong x (outcome_of_all ss (with_nets nets (after_step s.what m))).failures)
         → IsAmong x (put_first s.number (failure s.what (with_nets nets m))
-            (if list_any (stays_other nets) (events_of_step s.number s.what m) then [] else later nets s ss m))
+        (if list_any (stays_other nets) (events_of_step s.number s.what m) then [] else later nets s ss m))
         → IsAmong x (step_failures s (with_nets nets m) ++ rest)
     by o fails b is same go among =
         split o fails (subst (λ (p : Option (Part × ℕ) × Bool). IsAmong x (put_first s.number p.0 (if p.1 then [] else later nets s ss m))) (λ i. (fails i, is i)) among)

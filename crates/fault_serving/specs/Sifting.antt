@@ -88,11 +88,11 @@ AreSifted Is (f ∷ fs) kept others =
 
 -- the first of these faults, without those that are counted, and the others; none is kept only where there are no others
 pub record Sifts (Is : Outcome → Fault → Type 0) (left kept : List Fault) (others : Counts) (rest : List Fault) : Type 0
-    where
-  pub first : List Fault
-  pub are : left ≡ first ++ rest
-  pub sifted : AreSifted Is first kept others
-  pub over : kept ≡ [] → rest ≡ []
+  where
+    pub first : List Fault
+    pub are : left ≡ first ++ rest
+    pub sifted : AreSifted Is first kept others
+    pub over : kept ≡ [] → rest ≡ []
 
 -- which may be counted
 abbrev pub may_count : Counting → Outcome → Bool

@@ -241,12 +241,7 @@ impl Sieve<'_> {
 }
 
 /// Who may win on a bridge.
-const WINNERS: [Winner; 4] = [
-    Winner::Zeros,
-    Winner::Ones,
-    Winner::First,
-    Winner::Second,
-];
+const WINNERS: [Winner; 4] = [Winner::Zeros, Winner::Ones, Winner::First, Winner::Second];
 
 /// Whether a way of a bridge fails.
 fn is_any_failing(failing: Failing) -> bool

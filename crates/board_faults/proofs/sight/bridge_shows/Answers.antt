@@ -7,4 +7,4 @@ returns c =
     c.pairs_show.ensures
     ∙ (λ i.
     some_pair (at_driven (c.seen_at-one.ensures i).can) (at_driven (c.seen_at-other.ensures i).can)
-    (short_differs c.args.winner (c.pull_at.ensures i) (c.pull_at-2.ensures i) (c.seen_at-one.ensures i).read (c.seen_at-other.ensures i).read))
+    (short_differs c.args.winner (c.pull_at-pull.ensures i) (c.pull_at-other_pull.ensures i) (c.seen_at-one.ensures i).read (c.seen_at-other.ensures i).read))
