@@ -27,6 +27,7 @@ from waves import Asked, waves, without_strings
 CASES = 450
 WAVE_CASES = 40
 COVER_CASES = 200
+MANY_CASES = 6
 DIAGNOSE_CASES = 100
 LONGEST_PLAY = 60_000  # bits and cycles; a longer program is checked and not played
 LONGEST_WAVE = 2_000  # and its waves are not compared
@@ -291,7 +292,9 @@ def way_of(kind: str, as_waves: bool) -> tuple:
         return expected_waves, WAVE_CASES
     if kind in DIAGNOSE_KINDS:
         return expected_diagnoses, DIAGNOSE_CASES
-    return (expected_covers, COVER_CASES) if kind in COVER_KINDS else (expected, CASES)
+    if kind in COVER_KINDS:
+        return expected_covers, MANY_CASES if kind == "many_covers" else COVER_CASES
+    return expected, CASES
 
 
 if __name__ == "__main__":

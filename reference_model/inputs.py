@@ -811,16 +811,16 @@ LOOKS = ("IDLE DRSELECT DRCAPTURE DREXIT1 DRUPDATE IDLE", "IDLE DRSELECT DRCAPTU
 """Ways through the controller that capture, and pass on some of what was captured or all of it."""
 
 
-def tested(rng, board) -> list[list[str]]:
+def tested(rng, board, rounds: tuple = (1, 1, 2), scans: tuple = (2, 4, 7)) -> list[list[str]]:
     """A test of the nets of a board, with other statements in between; seldom it wants what does not come."""
     writer = Writer(rng, board, rng.choice((0,) * 15 + (0.01,)))
-    for _ in range(rng.choice((1, 1, 2))):
+    for _ in range(rng.choice(rounds)):
         for tokens in some(rng, (0.4, [["STATE", "RESET"]]), (0.2, [["ENDDR", rng.choice(("DRPAUSE", "IDLE"))]])):
             writer.add(tokens, 1)
         writer.scan("IR", rng.choice((("SAMPLE", "PRELOAD"), ())))
         writer.scan("DR")
         writer.scan("IR", rng.choice((("EXTEST",), ("EXTEST",), ("EXTEST", "HIGHZ"), ("EXTEST", "CLAMP", "SAMPLE"))))
-        for _ in range(rng.choice((2, 4, 7))):
+        for _ in range(rng.choice(scans)):
             look = ["STATE", *rng.choice(LOOKS).split()]
             for tokens in some(rng, (0.06, [["TRST", "ON"], ["TRST", "OFF"]]), (0.15, [look])):
                 writer.add(tokens, 1)
@@ -850,11 +850,11 @@ def covers(rng, number: int) -> Case:
 
 
 class Many(Small):
-    """A made description of the same kind with so many pins that a board of two has some fifty nets."""
+    """A made description of the same kind with so many pins that a board of two has some forty nets."""
 
     def make_ports(self) -> None:
         self.ports, self.free = {name: "bit" for name in (*TAPS.values(), "TRST")}, []
-        for number in range(5):
+        for number in range(4):
             self.ports[f"P{number}"] = "bit_vector(0 to 8)"
             self.free += [(f"P{number}", subscript) for subscript in range(9)]
 
@@ -863,7 +863,7 @@ def many_covers(rng, number: int) -> Case:
     """Boards of many nets, and short tests of them: most have more than 256 faults that are missed."""
     tree, its_files = chained(rng, [Many(rng).text() for _ in range(2)], 1)
     board = read_board(tree, its_files)
-    return Case(spell(rng, tested(rng, board), 0.97), tree, its_files)
+    return Case(spell(rng, tested(rng, board, (1,), (1, 2)), 0.97), tree, its_files)
 
 
 def diagnoses(rng, number: int) -> Case:
