@@ -67,7 +67,7 @@ fn write_net_scope<W: Sink>(
 ) -> Result<(), Broken>
     requires none_lost { out.old.failures ≡ 0 }
     requires early { first ≤ 300000 }
-    requires few { length (all_pins chain.now.nets) ≤ 2 ^ 60 }
+    requires few { length (all_pins chain.now.nets) < 2 ^ 63 }
     requires inside { k < length chain.now.nets }
     requires place { pin ≡ length (all_pins (take k chain.now.nets)) }
     ensures { (net : Net) → slice_get chain.now.nets k ≡ Some net
@@ -91,7 +91,7 @@ fn write_pins<W: Sink>(
 ) -> Result<(), Broken>
     requires none_lost { out.old.failures ≡ 0 }
     requires early { first ≤ 300000 }
-    requires few { length (all_pins chain.now.nets) ≤ 2 ^ 60 }
+    requires few { length (all_pins chain.now.nets) < 2 ^ 63 }
     requires inside { pin + count ≤ length (all_pins chain.now.nets) }
     ensures { WritesAll W.contents out.old out.new
         (by_numbers (drive_variable chain.now.chips net.now) 1 (first + pin)
