@@ -1,8 +1,9 @@
 //! The chain of devices with its nets.
 
-ghost use Rattle.std.specs.Prelude.{◌≡◌, ◌<◌, true, false, length, map, option_map, slice_get, Some};
+ghost use Rattle.std.specs.Prelude.{◌≡◌, ◌<◌, ◌^◌, true, false, length, map, option_map, slice_get, Some};
 ghost use Rattle.std.specs.Prelude.{option_and_then, if◌then◌else◌};
 ghost use Rattle.board_plan.specs.CellNets.{cell_net};
+ghost use Rattle.board_plan.specs.Planned.{all_pins};
 ghost use Rattle.board_model.specs.Chain as meant;
 ghost use Rattle.board_model.specs.Nets as nets;
 ghost use Rattle.board_chips.specs.WiredChips.{AllTold, chip_state};
@@ -12,7 +13,7 @@ mod shifting;
 
 use crate::settled::Settled;
 use board_chips::WiredChip;
-use pin_nets::Level;
+use pin_nets::{Drive, Level, Pin};
 use std::marker::Model;
 
 /// Devices on one TAP, the first nearest the board's TDO, with the nets between their pins. Contracts see the level of
@@ -140,6 +141,39 @@ impl Chain {
             (slice_get self.now.nets net) ≡ Some result }
     {
         self.settled.wiring().is_opposed(net)
+    }
+
+    /// How many pins a net has.
+    pub fn net_size(&self, net: usize) -> usize
+        requires { net < length self.now.nets }
+        ensures { option_map (λ n. length n.pins) (slice_get self.now.nets net) ≡ Some result }
+    {
+        self.settled.wiring().size(net)
+    }
+
+    /// How many pins all nets with a name have.
+    pub fn pin_count(&self) -> usize
+        ensures count { result ≡ length (all_pins self.now.nets) }
+        ensures few { result < 2 ^ 63 }
+    {
+        self.settled.wiring().pin_count()
+    }
+
+    /// Which pin stands at this place among those of the nets, one net after another.
+    pub fn pin(&self, pin: usize) -> Pin
+        requires { pin < length (all_pins self.now.nets) }
+        ensures { slice_get (all_pins self.now.nets) pin ≡ Some result }
+    {
+        self.settled.wiring().pin(pin)
+    }
+
+    /// What a pin drives, by its place among those of the nets.
+    pub fn drive(&self, pin: usize) -> Drive
+        requires { pin < length (all_pins self.now.nets) }
+        ensures { option_map (nets.pin_drive (nets.in_force self.now.nets (meant.members self.now.chips)))
+            (slice_get (all_pins self.now.nets) pin) ≡ Some result }
+    {
+        self.settled.wiring().drive(pin)
     }
 
     /// The TDO of the first device, which reads 1 while it is not driven.

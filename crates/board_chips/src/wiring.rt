@@ -1,6 +1,6 @@
 //! The nets of a board, with what was last put to them.
 
-ghost use Rattle.std.specs.Prelude.{◌≡◌, ◌<◌, ◌∷◌, map, length, slice_get, slice_set, option_map, replicate, Some};
+ghost use Rattle.std.specs.Prelude.{◌≡◌, ◌<◌, ◌^◌, ◌∷◌, map, length, slice_get, slice_set, option_map, replicate, Some};
 ghost use Rattle.std.specs.Prelude.{IfOk, ◌≢◌, true, false};
 ghost use Rattle.pin_nets.specs.declared.Drive.{Drive as TheDrive};
 ghost use Rattle.pin_nets.specs.declared.Drive.TheVariants as driving;
@@ -105,10 +105,19 @@ impl Wiring {
         self.levels.is_opposed(net)
     }
 
+    /// How many pins a net has.
+    pub fn size(&self, net: usize) -> usize
+        requires { net < length self.now.nets }
+        ensures { option_map (λ n. length n.pins) (slice_get self.now.nets net) ≡ Some result }
+    {
+        self.nets[net].pins.len()
+    }
+
     /// How many pins the nets have.
     pub fn pin_count(&self) -> usize
         ensures count { result ≡ length (all_pins self.now.nets) }
         ensures drives { result ≡ length self.now.drives }
+        ensures few { result < 2 ^ 63 }
     {
         self.pins.len()
     }
@@ -119,6 +128,14 @@ impl Wiring {
         ensures { slice_get (all_pins self.now.nets) pin ≡ Some result }
     {
         self.pins[pin]
+    }
+
+    /// What was last put to a pin, by its place among those of the nets.
+    pub fn drive(&self, pin: usize) -> Drive
+        requires { pin < length (all_pins self.now.nets) }
+        ensures { slice_get self.now.drives pin ≡ Some result }
+    {
+        self.levels.drive(pin)
     }
 
     /// A pin, by its place among those of the nets, drives this from now on. It is put to its net only where it is not
