@@ -155,11 +155,7 @@ fn write_pin<W: Sink>(pin: Pin, chain: &Chain, out: &mut Counted<W>) -> Result<(
 }
 
 /// Writes a pin of a device.
-fn write_pin_of<W: Sink>(
-    chip: &WiredChip,
-    port: usize,
-    out: &mut Counted<W>,
-) -> Result<(), Broken>
+fn write_pin_of<W: Sink>(chip: &WiredChip, port: usize, out: &mut Counted<W>) -> Result<(), Broken>
     requires { out.old.failures ≡ 0 }
     ensures { WritesAll W.contents out.old out.new (fronted chip.now.name ++ words.port_of chip.now.chip.device port)
         result }

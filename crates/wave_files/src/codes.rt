@@ -27,11 +27,7 @@ const SECOND_CODE_FROM_END: usize = 2;
 /// Writes the code of a variable, and one byte behind it.
 ///
 /// `Broken` comes exactly where the writer's first failure came in this call.
-pub fn write_code<W: Sink>(
-    number: usize,
-    last: u8,
-    out: &mut Counted<W>,
-) -> Result<(), Broken>
+pub fn write_code<W: Sink>(number: usize, last: u8, out: &mut Counted<W>) -> Result<(), Broken>
     requires { out.old.failures ≡ 0 }
     ensures { WritesAll W.contents out.old out.new (code number ++ last ∷ []) result }
 {

@@ -47,11 +47,7 @@ pub(crate) fn write_drive_values<W: Sink>(
 }
 
 /// Writes this of all pins, from a number on.
-fn write_drives<W: Sink>(
-    first: usize,
-    chain: &Chain,
-    out: &mut Counted<W>,
-) -> Result<(), Broken>
+fn write_drives<W: Sink>(first: usize, chain: &Chain, out: &mut Counted<W>) -> Result<(), Broken>
     requires none_lost { out.old.failures ≡ 0 }
     requires early { first ≤ 300000 }
     ensures { WritesAll W.contents out.old out.new
