@@ -14,7 +14,7 @@ ghost use Rattle.wave_files.specs.Values.{instruction_change, latch, level_byte,
 ghost use Rattle.wave_files.specs.Values.{variables_of_device};
 
 use crate::codes::{write_byte, write_instruction, write_state};
-use crate::numbers::{FIRST_OF_DEVICES, VARIABLES_OF_DEVICE};
+use crate::numbering::{FIRST_OF_DEVICES, VARIABLES_OF_DEVICE};
 use crate::shown::{Shown, UNDRIVEN, UNKNOWN};
 use crate::stamps::write_time;
 use board_chain::{Chain, WiredChip};

@@ -10,7 +10,7 @@ ghost use Rattle.wave_files.specs.Values.{by_numbers};
 
 use crate::changes::write_byte_change;
 use crate::codes::write_byte;
-use crate::numbers::first_of_drives;
+use crate::numbering::first_of_drives;
 use crate::shown::UNDRIVEN;
 use board_chain::Chain;
 use byte_streams::{Broken, Counted, Sink, put_all};

@@ -15,7 +15,7 @@ ghost use Rattle.wave_files.specs.Values.{by_numbers, extras_of_device, latch};
 use crate::changes::{are_same, write_byte_change};
 use crate::codes::{write_byte, write_word_line};
 use crate::drives::{write_drive_changes, write_drive_values};
-use crate::numbers::{EXTRAS_OF_DEVICE, first_of_extras};
+use crate::numbering::{EXTRAS_OF_DEVICE, first_of_extras};
 use crate::shown::{UNDRIVEN, wire};
 use board_chain::{Chain, WiredChip};
 use byte_streams::{Broken, Counted, Sink, put_all};

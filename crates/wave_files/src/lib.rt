@@ -10,7 +10,7 @@ mod codes;
 mod drives;
 mod extras;
 mod laws;
-mod numbers;
+mod numbering;
 mod shown;
 mod stamps;
 mod start;
@@ -19,7 +19,7 @@ pub use changes::{is_same_state, write_byte_change, write_changes};
 pub use codes::{write_bits_line, write_byte, write_code, write_number, write_word_line};
 pub use extras::{Extras, write_extra_changes};
 pub use laws::codes_differ;
-pub use numbers::{
+pub use numbering::{
     EXTRAS_OF_DEVICE, FIRST_OF_DEVICES, STATEMENT_VARIABLE, VARIABLES_OF_DEVICE, first_of_drives,
     first_of_extras, first_of_notes,
 };

@@ -12,7 +12,7 @@ ghost use Rattle.wave_files.specs.Values.{variables_of_device};
 use crate::changes::level_of;
 use crate::codes::{write_bits_line, write_byte, write_instruction, write_state, write_word_line};
 use crate::extras::{Extras, write_extra_values};
-use crate::numbers::{FIRST_OF_DEVICES, VARIABLES_OF_DEVICE, first_of_notes};
+use crate::numbering::{FIRST_OF_DEVICES, VARIABLES_OF_DEVICE, first_of_notes};
 use crate::shown::{Shown, UNKNOWN};
 use board_chain::{Chain, WiredChip};
 use byte_streams::{Broken, Counted, Sink, put_all};
