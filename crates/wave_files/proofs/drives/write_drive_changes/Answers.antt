@@ -21,7 +21,7 @@ pub returns-then-quiet : goal.returns-then-quiet
 returns-then-quiet g c =
     WritesAll-is
     (sym (no_drive c.args.drives c.args.behind.now.nets c.args.behind.now.chips c.args.ahead.now.chips (c.requires.quiet c.if-quiet.true)))
-    c.put_all.ensures.writes
+    c.put_all-then-quiet.ensures.writes
 
 pub returns : goal.returns
 returns g c =
