@@ -1,5 +1,5 @@
 -- What pins drive, by letters, and who fights on a net.
-use Rattle.std.proofs.Common.{◌≡◌, ◌⊎◌, inl, inr, ⊎_elim, ◌<◌, ◌+◌, ℕ, zero, suc, Bool, true, false, List, [], ◌∷◌, map, refl, sym, ap, ◌∙◌, arith}
+use Rattle.std.proofs.Common.{◌≡◌, ◌⊎◌, inl, inr, ⊎_elim, ◌<◌, ℕ, zero, suc, Bool, true, false, List, [], ◌∷◌, map, refl, sym, ap, ◌∙◌, arith}
 use Rattle.std.specs.Prelude.{◌==◌, count_by, if◌then◌else◌}
 use Rattle.pin_nets.specs.declared.Counts.{Counts}
 use Rattle.pin_nets.specs.declared.Drive.{Drive}
@@ -10,14 +10,13 @@ use Rattle.pin_nets.specs.declared.Pin.{Pin}
 use Rattle.pin_nets.specs.declared.Pull.{Pull}
 use Rattle.pin_nets.specs.declared.Pull.TheVariants.{Down, Free, Up}
 use Rattle.pin_nets.specs.declared.Rule.{Rule}
-use Rattle.pin_nets.specs.Levels.{counts_of, is_strong, is_weak, level_by, level_of, of_counts, one, pull_drive, shown}
-use Rattle.pin_nets.specs.Wired.{Net}
+use Rattle.pin_nets.specs.Levels.{counts_of, is_strong, is_weak, level_by, of_counts, one, pull_drive, shown}
 use Rattle.pin_nets.proofs.Counting.{count-cons}
-use Rattle.board_model.specs.Chain.{ChipState, members}
+use Rattle.board_model.specs.Chain.{members}
 use Rattle.board_model.specs.Following.{IsAmong}
 use Rattle.board_model.specs.Nets.{level, pin_drive}
 use Rattle.output_words.specs.Digits.{digit}
-use Rattle.wave_files.specs.Drives.{drive_byte, driving, weak_byte}
+use Rattle.wave_files.specs.Drives.{drive_byte, driving}
 use Rattle.wave_files.specs.Values.{level_byte, unknown}
 use Rattle.play_waves.specs.Laws.{EachDriveHasItsLetter, IsDrawn, IsPulled, WhoFightsIsDrawn}
 

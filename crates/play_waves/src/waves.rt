@@ -19,7 +19,6 @@ ghost use Rattle.play_drawing.specs.Drawing.{after_drawing};
 ghost use Rattle.play_drawing.specs.Judging.{draw_judging};
 ghost use Rattle.play_drawing.specs.Notes.{no_note};
 ghost use Rattle.wave_files.specs.Values as numbers;
-ghost use Rattle.play_drawing.specs.Waves.{heading};
 ghost use Rattle.play_drawing.specs.Pens.{begun};
 ghost use Rattle.play_waves.specs.Stages.{judge_for};
 ghost use Rattle.play_waves.specs.Texts.{Draws};

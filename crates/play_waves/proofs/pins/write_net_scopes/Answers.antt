@@ -1,10 +1,10 @@
-use Rattle.std.proofs.Common.{◌≡◌, ◌+◌, ℕ, List, length, take, drop, refl, sym, ap, ◌∙◌, arith}
+use Rattle.std.proofs.Common.{◌≡◌, ◌+◌, ℕ, length, take, drop, refl, sym, ap, ◌∙◌, arith}
 use Rattle.std.specs.Prelude.{slice_get}
 use Rattle.byte_streams.proofs.Fronts.{WritesAll-is, WritesAll-lost}
 use Rattle.pin_nets.specs.Wired.{Net}
 use Rattle.wave_files.specs.Heading.{net_scope, net_scopes}
 use Rattle.wave_files.proofs.Numbers.{there_is}
-use Rattle.play_waves.proofs.PinLaws.{pins_before, pins_inside, pins_next, scope_sent, scopes_done, scopes_left}
+use Rattle.play_waves.proofs.PinLaws.{pins_before, pins_next, scope_sent, scopes_done, scopes_left}
 use Rattle.play_waves.proofs.pins.write_net_scopes.Goals as goal
 
 pub loop-k-preserved : goal.loop-k-preserved

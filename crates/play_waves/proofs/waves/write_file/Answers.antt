@@ -1,9 +1,7 @@
 use Rattle.std.proofs.Common.{◌≡◌, ◌++◌, ℕ, List, refl, sym, ap, append_assoc, ◌∙◌}
 use Rattle.byte_streams.proofs.Fronts.{WritesAll-is, WritesAll-stopped, WritesAll-then}
-use Rattle.pin_nets.specs.Wired.{Net}
 use Rattle.svf_programs.specs.Periods.{period_in}
 use Rattle.svf_programs.specs.Sizes.{program_of}
-use Rattle.board_model.specs.Chain.{ChipState}
 use Rattle.play_model.specs.Play.{turns}
 use Rattle.wave_files.specs.Heading.{variables}
 use Rattle.play_drawing.specs.Pens.{Pen, begun}
