@@ -43,8 +43,10 @@ WORDS = {"check": ["check"], "check, explained": ["check", "--explain"], "play":
          "waves, noted and plain": ["play", "--vcd-plain", "--vcd-fails", "--vcd", WAVE_FILE],
          "waves with names": ["play", "--vcd", WAVE_FILE, "--vcd-names"],
          "waves with TDOs": ["play", "--all", "--vcd-tdo", "--vcd", WAVE_FILE],
-         "waves with all": ["play", "--vcd-names", "--vcd-fails", "--vcd-tdo", "--vcd", WAVE_FILE],
-         "waves with all, plain": ["play", "--vcd-names", "--vcd-fails", "--vcd-tdo", "--vcd-plain", "--vcd", WAVE_FILE],
+         "waves with drives": ["play", "--all", "--vcd-drives", "--vcd", WAVE_FILE],
+         "waves with all": ["play", "--vcd-names", "--vcd-fails", "--vcd-tdo", "--vcd-drives", "--vcd", WAVE_FILE],
+         "waves with all, plain": ["play", "--vcd-names", "--vcd-fails", "--vcd-tdo", "--vcd-drives", "--vcd-plain",
+                                   "--vcd", WAVE_FILE],
          "reasons": ["play", "--all", "--explain"], "cover": ["cover"], "cover, listed": ["cover", "--list"]}
 
 
@@ -104,10 +106,12 @@ def expected_waves(case: Case) -> dict[str, program.Answer]:
         return {}
     ends = {"waves": (False, Asked()), "waves to the end": (True, Asked()), "waves, noted": (False, Asked(noted=True)),
             "waves to the end, noted": (True, Asked(noted=True)), "waves with names": (False, Asked(names=True)),
-            "waves with TDOs": (True, Asked(tdos=True)), "waves with all": (False, Asked(True, True, True))}
+            "waves with TDOs": (True, Asked(tdos=True)), "waves with drives": (True, Asked(drives=True)),
+            "waves with all": (False, Asked(True, True, True, True))}
     drawn = {command: program.play(board, its_program, end)._replace(out=waves(board, case.text, end, asked))
              for command, (end, asked) in ends.items()}
-    noted, nameless = drawn["waves, noted"], waves(board, case.text, False, Asked(noted=True, tdos=True))
+    noted = drawn["waves, noted"]
+    nameless = waves(board, case.text, False, Asked(noted=True, tdos=True, drives=True))
     return drawn | {"waves, noted and plain": noted._replace(out=without_strings(noted.out)),
                     "waves with all, plain": noted._replace(out=without_strings(nameless))}
 

@@ -1,10 +1,10 @@
 """The waves of a play: the value change dump that `play --vcd FILE [--all]` draws, with `--vcd-fails`, `--vcd-names`,
-`--vcd-tdo` and `--vcd-plain`.
+`--vcd-tdo`, `--vcd-drives` and `--vcd-plain`.
 
 Each message of the play is put to the board of edges, and behind it all that is shown is worked out anew: what
 differs from what was drawn last is written. What is told of the bits that a scan wants (`--vcd-fails`) is written
-before the message at whose time it becomes so. What is drawn of devices besides (`--vcd-names`, `--vcd-tdo`) stands
-behind all else of its time.
+before the message at whose time it becomes so. What is drawn of devices and pins besides (`--vcd-names`, `--vcd-tdo`,
+`--vcd-drives`) stands behind all else of its time.
 """
 
 from __future__ import annotations
@@ -14,6 +14,7 @@ from itertools import count
 
 from board import Board, EdgeBoard
 from controller import STABLE
+from described import spelt
 from program import OPENING, place_after, step_bytes
 from svf import USUAL_PERIOD, Bit, Frequency, ScanStep, accept, parse
 
@@ -30,6 +31,7 @@ STATE_CODES = {
 }
 """The codes of the standard's own example (IEEE Std 1149.1-2001, 6.1)."""
 LEVELS = {"Zero": "0", "One": "1", "Float": "z", "Contend": "x"}
+DRIVES = {("strong", 0): "0", ("strong", 1): "1", ("weak", 0): "l", ("weak", 1): "h", None: "z"}
 
 
 def sign(number: int) -> str:
@@ -40,13 +42,15 @@ def sign(number: int) -> str:
 
 @dataclass(frozen=True)
 class Asked:
-    """What is drawn besides: bits that are wanted, and of each device the name of its instruction, and its TDO."""
+    """What is drawn besides: bits that are wanted, of each device the name of its instruction, and its TDO, and what
+    each pin of a net drives."""
     noted: bool = False
     names: bool = False
     tdos: bool = False
+    drives: bool = False
 
     def extras(self) -> list[int]:
-        """Which of the two extras are drawn."""
+        """Which of the two extras of a device are drawn."""
         return [place for place, drawn in enumerate((self.names, self.tdos)) if drawn]
 
 
@@ -55,10 +59,15 @@ def first_of_extras(board: Board) -> int:
     return len(LINES) + 1 + 3 * len(board.parts) + len(board.nets) + len(NOTES)
 
 
+def first_of_pins(board: Board) -> int:
+    """So are those of devices."""
+    return first_of_extras(board) + len(EXTRAS) * len(board.parts)
+
+
 def heading(board: Board, asked: Asked) -> str:
     """The variables in their scopes, numbered in order; those of the bits that are wanted come behind all others in
-    that, and behind them those of devices that are drawn besides."""
-    numbers = count()
+    that, and behind them those of devices, and those of pins, that are drawn besides."""
+    numbers, pins = count(), count(first_of_pins(board))
     notes = count(len(LINES) + 1 + 3 * len(board.parts) + len(board.nets))
 
     def variable(kind: str, name: str) -> str:
@@ -78,6 +87,10 @@ def heading(board: Board, asked: Asked) -> str:
         its = [(EXTRAS[which], sign(first + which)) for which in asked.extras()]
         lines += [f"$scope module {part.name} $end",
                   *(f"$var {kind} {code} {part.name}_{name} $end" for (kind, name), code in its), "$upscope $end"]
+    for net in board.nets if asked.drives else []:
+        names = [f"{net.name}_{board.parts[place].name}_{spelt(port)}" for place, port in net.pins]
+        lines += [f"$scope module {net.name} $end", *(f"$var wire 1 {sign(next(pins))} {name} $end" for name in names),
+                  "$upscope $end"]
     return "".join(line + "\n" for line in [*lines, "$upscope $end", "$enddefinitions $end"])
 
 
@@ -89,7 +102,8 @@ class Drawing:
     """A board that takes a play, and what was drawn of it last; `tck` is None within a stretch of rest."""
 
     def __init__(self, board: Board, asked: Asked):
-        self.edges, self.asked, self.first_extra = EdgeBoard(board), asked, first_of_extras(board)
+        self.edges, self.asked = EdgeBoard(board), asked
+        self.first_extra, self.first_pin = first_of_extras(board), first_of_pins(board)
         self.tck, self.tms, self.tdi = 0, None, None
         self.time = self.rested = self.statement = 0
         self.values = self.shown()
@@ -111,13 +125,15 @@ class Drawing:
         return values + [LEVELS[its_level] for its_level in edges.levels().named]
 
     def shown_besides(self) -> dict[int, str]:
-        """By the number of its variable what is shown of devices besides."""
+        """By the number of its variable what is shown of devices and pins besides."""
         found, number = {}, self.first_extra
         for chip, output in zip(self.edges.chips, self.edges.outputs):
             values = f"s{chip.instruction or '-'} ", level(output, "z")
             found |= {number + which: values[which] for which in self.asked.extras()}
             number += len(EXTRAS)
-        return found
+        drives = self.edges.levels().drives if self.asked.drives else []
+        pins = [pin for net in self.edges.nets for pin in net.pins] if self.asked.drives else []
+        return found | {number: DRIVES[drives[place].get(port)] for number, (place, port) in enumerate(pins, self.first_pin)}
 
     def begin(self, statement: int) -> None:
         """Write the time at which a statement begins, and its number."""
@@ -172,7 +188,7 @@ class Drawing:
         """Whether a variable is the name of an instruction whose bits have changed: a name comes with its bits."""
         place, which = divmod(number - self.first_extra, len(EXTRAS))
         bits = len(LINES) + 1 + 3 * place + 2
-        return which == 0 and self.values[bits] != before[bits]
+        return number < self.first_pin and which == 0 and self.values[bits] != before[bits]
 
     def go_on(self, time: int) -> None:
         self.time = min(self.time + time, LATEST)

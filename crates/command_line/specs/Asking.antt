@@ -37,27 +37,32 @@ explain = record (new_rule (codes "explain")) { long = Some (codes "explain"); a
 abbrev pub vcd : Rule
 vcd = record (new_rule (codes "vcd")) { long = Some (codes "vcd"); action = Some Set }
 
--- `[--vcd-fails]`
+-- `[--NAME]`, which says how waves are drawn
+abbrev pub waves_flag : Text → Rule
+waves_flag name = record (new_rule name) { long = Some name; action = Some SetTrue }
+
 abbrev pub vcd_fails : Rule
-vcd_fails = record (new_rule (codes "vcd-fails")) { long = Some (codes "vcd-fails"); action = Some SetTrue }
+vcd_fails = waves_flag (codes "vcd-fails")
 
--- `[--vcd-names]`
 abbrev pub vcd_names : Rule
-vcd_names = record (new_rule (codes "vcd-names")) { long = Some (codes "vcd-names"); action = Some SetTrue }
+vcd_names = waves_flag (codes "vcd-names")
 
--- `[--vcd-tdo]`
 abbrev pub vcd_tdo : Rule
-vcd_tdo = record (new_rule (codes "vcd-tdo")) { long = Some (codes "vcd-tdo"); action = Some SetTrue }
+vcd_tdo = waves_flag (codes "vcd-tdo")
 
--- `[--vcd-plain]`
+abbrev pub vcd_drives : Rule
+vcd_drives = waves_flag (codes "vcd-drives")
+
 abbrev pub vcd_plain : Rule
-vcd_plain = record (new_rule (codes "vcd-plain")) { long = Some (codes "vcd-plain"); action = Some SetTrue }
+vcd_plain = waves_flag (codes "vcd-plain")
 
 -- `play [FILE] [--board BOARD] [--bytes] [--all] [--explain] [--vcd FILE] [--vcd-fails] [--vcd-names] [--vcd-tdo]
--- [--vcd-plain]`
+-- [--vcd-drives] [--vcd-plain]`
 abbrev pub play : Shape
 play = record (new_shape (codes "play")) {
-  rules = svf ∷ board ∷ bytes ∷ all ∷ explain ∷ vcd ∷ vcd_fails ∷ vcd_names ∷ vcd_tdo ∷ vcd_plain ∷ [];
+  rules =
+      svf ∷ board ∷ bytes ∷ all ∷ explain ∷ vcd ∷ vcd_fails ∷ vcd_names ∷ vcd_tdo ∷ vcd_drives ∷ vcd_plain
+      ∷ [];
 }
 
 -- `check [FILE] [--board BOARD] [--explain]`
@@ -174,12 +179,13 @@ pub record Host : Type 0 where
   pub timeout : Option ℕ
 
 -- the file that waves are drawn into; whether they show which bits are wanted and which of them fail, the names of
--- instructions, and each device's TDO; and whether they are without strings
+-- instructions, each device's TDO, and what each pin drives; and whether they are without strings
 pub record Drawn : Type 0 where
   pub file : Text
   pub fails : Bool
   pub names : Bool
   pub tdos : Bool
+  pub drives : Bool
   pub plain : Bool
 
 -- what is done with a text or a board: whether the bytes are told, whether all failures are, and whether it is told why
@@ -255,6 +261,7 @@ waves_of rows =
       fails = is_given (codes "vcd-fails") rows;
       names = has_names rows;
       tdos = is_given (codes "vcd-tdo") rows;
+      drives = is_given (codes "vcd-drives") rows;
       plain = is_given (codes "vcd-plain") rows;
     })
     (first_of (codes "vcd") rows)

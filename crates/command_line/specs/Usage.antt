@@ -24,7 +24,14 @@ abbrev pub board : Text
 board = codes "b.toml"
 
 abbrev pub waves : (fails plain : Bool) → Drawn
-waves fails plain = record { file = codes "a.vcd"; fails = fails; names = false; tdos = false; plain = plain }
+waves fails plain = record {
+  file = codes "a.vcd";
+  fails = fails;
+  names = false;
+  tdos = false;
+  drives = false;
+  plain = plain;
+}
 
 pub record UsageRows : Type 0 where
   pub no_words : Asks [] (request None None (plays true false false None))
@@ -65,13 +72,17 @@ pub record UsageRows : Type 0 where
       (request (Some file) None (plays false false false (Some (record (waves false false) { names = true }))))
   pub play_vcd_tdo : Asks (codes "play" ∷ file ∷ codes "--vcd=a.vcd" ∷ codes "--vcd-tdo" ∷ [])
       (request (Some file) None (plays false false false (Some (record (waves false false) { tdos = true }))))
+  pub play_vcd_drives : Asks (codes "play" ∷ codes "--vcd-drives" ∷ codes "--vcd=a.vcd" ∷ file ∷ [])
+      (request (Some file) None (plays false false false (Some (record (waves false false) { drives = true }))))
   pub play_vcd_every_flag : Asks
       (codes "play" ∷ codes "--vcd-tdo" ∷ codes "--vcd-plain" ∷ codes "--vcd-names" ∷ codes "--vcd=a.vcd"
-      ∷ codes "--vcd-fails" ∷ [])
-      (request None None (plays false false false (Some (record (waves true true) { tdos = true }))))
+      ∷ codes "--vcd-drives" ∷ codes "--vcd-fails" ∷ [])
+      (request None None
+      (plays false false false (Some (record (waves true true) { tdos = true; drives = true }))))
   pub names_of_no_waves : Asks (codes "play" ∷ codes "--vcd-names" ∷ codes "--vcd-tdo" ∷ [])
       (request None None (plays false false false None))
   pub check_draws_no_names : IsRefused (codes "check" ∷ codes "--vcd-names" ∷ []) (kind.UnknownArgument ∷ [])
+  pub check_draws_no_drives : IsRefused (codes "check" ∷ codes "--vcd-drives" ∷ []) (kind.UnknownArgument ∷ [])
   pub loop_draws_no_tdo : IsRefused (codes "loop" ∷ codes "--vcd-tdo" ∷ []) (kind.UnknownArgument ∷ [])
   pub fails_of_no_waves : Asks (codes "play" ∷ codes "--vcd-fails" ∷ codes "--vcd-plain" ∷ [])
       (request None None (plays false false false None))

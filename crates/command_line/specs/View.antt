@@ -13,7 +13,14 @@ abbrev pub server_view : Server → Host
 server_view s = record { host = s.host.now; port = s.port; timeout = s.timeout }
 
 abbrev pub waves_view : Waves → Drawn
-waves_view w = record { file = w.file.now; fails = w.fails; names = w.names; tdos = w.tdos; plain = w.plain }
+waves_view w = record {
+  file = w.file.now;
+  fails = w.fails;
+  names = w.names;
+  tdos = w.tdos;
+  drives = w.drives;
+  plain = w.plain;
+}
 
 abbrev pub action_of : Task → Action
 action_of (Play bytes all explain vcd) = asking.plays bytes all explain (option_map waves_view vcd)

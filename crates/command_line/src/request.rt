@@ -88,6 +88,8 @@ pub struct Waves<'a> {
     pub names: bool,
     /// Whether they show the TDO of each device.
     pub tdos: bool,
+    /// Whether they show what each pin of a named net drives.
+    pub drives: bool,
     /// Whether they are without strings.
     pub plain: bool,
 }
@@ -131,7 +133,7 @@ pub struct Request<'a> {
 ///
 /// The command line is one of
 /// - `play [FILE] [--board BOARD] [--bytes] [--all] [--explain] [--vcd FILE] [--vcd-fails] [--vcd-names] [--vcd-tdo]
-///   [--vcd-plain]`,
+///   [--vcd-drives] [--vcd-plain]`,
 /// - `check [FILE] [--board BOARD] [--explain]`,
 /// - `loop [FILE] [--board BOARD] [--all] [--explain]`,
 /// - `serve --board BOARD --port PORT [--at-most BYTES] [--connections COUNT] [--timeout SECONDS] [--explain]`,
@@ -226,6 +228,7 @@ fn waves_of<'a>(found: &ArgMatches<'a>) -> Option<Waves<'a>>
             fails: is_given(found, "vcd-fails"),
             names: has_names(found),
             tdos: is_given(found, "vcd-tdo"),
+            drives: is_given(found, "vcd-drives"),
             plain: is_given(found, "vcd-plain"),
         }),
         None => None,
@@ -364,10 +367,11 @@ fn play_command<'a>(alloc: Global) -> Result<Command<'a>, AllocError>
     .arg(all_arg(alloc))?
     .arg(reasons_arg(alloc))?
     .arg(vcd_arg(alloc))?
-    .arg(vcd_fails_arg(alloc))?
-    .arg(vcd_names_arg(alloc))?
-    .arg(vcd_tdo_arg(alloc))?
-    .arg(vcd_plain_arg(alloc))
+    .arg(waves_flag(alloc, "vcd-fails", help::VCD_FAILS))?
+    .arg(waves_flag(alloc, "vcd-names", help::VCD_NAMES))?
+    .arg(waves_flag(alloc, "vcd-tdo", help::VCD_TDO))?
+    .arg(waves_flag(alloc, "vcd-drives", help::VCD_DRIVES))?
+    .arg(waves_flag(alloc, "vcd-plain", help::VCD_PLAIN))
 }
 
 fn check_command<'a>(alloc: Global) -> Result<Command<'a>, AllocError>
@@ -563,44 +567,15 @@ fn vcd_arg<'a>(alloc: Global) -> Arg<'a>
         .help("The file that the waves of the play are drawn into")
 }
 
-fn vcd_fails_arg<'a>(alloc: Global) -> Arg<'a>
-    ensures rule { rule_of result ≡ spec.vcd_fails }
+/// A flag that says how waves are drawn, with what help tells of it.
+fn waves_flag<'a>(alloc: Global, name: &'a str, text: &'a str) -> Arg<'a>
+    ensures rule { rule_of result ≡ spec.waves_flag name.now }
     ensures local { result.global ≡ false }
 {
-    Arg::new(alloc, "vcd-fails")
-        .long("vcd-fails")
+    Arg::new(alloc, name)
+        .long(name)
         .action(ArgAction::SetTrue)
-        .help("The waves also show which bits are wanted, and which of them fail")
-}
-
-fn vcd_names_arg<'a>(alloc: Global) -> Arg<'a>
-    ensures rule { rule_of result ≡ spec.vcd_names }
-    ensures local { result.global ≡ false }
-{
-    Arg::new(alloc, "vcd-names")
-        .long("vcd-names")
-        .action(ArgAction::SetTrue)
-        .help("The waves also show the names of instructions, unless they are without strings")
-}
-
-fn vcd_tdo_arg<'a>(alloc: Global) -> Arg<'a>
-    ensures rule { rule_of result ≡ spec.vcd_tdo }
-    ensures local { result.global ≡ false }
-{
-    Arg::new(alloc, "vcd-tdo")
-        .long("vcd-tdo")
-        .action(ArgAction::SetTrue)
-        .help("The waves also show the TDO of each device")
-}
-
-fn vcd_plain_arg<'a>(alloc: Global) -> Arg<'a>
-    ensures rule { rule_of result ≡ spec.vcd_plain }
-    ensures local { result.global ≡ false }
-{
-    Arg::new(alloc, "vcd-plain")
-        .long("vcd-plain")
-        .action(ArgAction::SetTrue)
-        .help("The waves are without strings, for viewers that know none")
+        .help(text)
 }
 
 fn board_arg<'a>(alloc: Global) -> Arg<'a>

@@ -47,6 +47,7 @@ pub(crate) fn draw_waves(
     let extras = Extras {
         names: waves.names,
         tdos: waves.tdos,
+        drives: waves.drives,
     };
     let written = if waves.plain {
         let mut lines = WithoutStrings::new(alloc, &mut writer);

@@ -1,5 +1,6 @@
 -- A message that leaves what every pin drives changes no net, and no instruction.
-use Rattle.std.proofs.Common.{◌≡◌, ◌+◌, ◌==◌, ℕ, suc, Bool, true, false, ◌&&◌, List, [], ◌∷◌, ◌++◌, map, refl, sym, ap, ap₂, ◌∙◌, arith}
+use Rattle.std.proofs.Common.{◌≡◌, ◌+◌, ℕ, zero, suc, Bool, true, false, ◌&&◌, List, [], ◌∷◌, ◌++◌, map, refl, sym, ap, ap₂, ◌∙◌, option_map}
+use Rattle.std.specs.Prelude.{slice_get, unwrap_or}
 use Rattle.std.specs.List.{list_all}
 use Rattle.jt_tap.specs.declared.Column.TheVariants.{Dr, Ir}
 use Rattle.jt_tap.specs.declared.Work.{Work}
@@ -14,15 +15,19 @@ use Rattle.chip_registers.specs.Registers.{Surroundings, capture_of, selected_bi
 use Rattle.jt_bits.specs.Shifting.{after_shift}
 use Rattle.scan_registers.specs.Edges.{after_fall, after_rise}
 use Rattle.pin_nets.specs.Wired.{Net}
-use Rattle.board_model.specs.Cells.{Member, Told, surroundings, untold}
+use Rattle.pin_nets.specs.declared.Drive.{Drive}
+use Rattle.pin_nets.specs.declared.Drive.TheVariants.{Nothing}
+use Rattle.board_model.specs.Cells.{Member, Told, drive, surroundings, untold}
 use Rattle.board_model.specs.Chain.{BoardState, ChipState, after_levels, after_message, fall, is_held, members, rise, rise_all, tdi_before}
 use Rattle.board_model.specs.Following.{AllDriveAlike, DrivesAlike}
-use Rattle.board_model.specs.Nets.{level, told}
-use Rattle.board_model.proofs.Staying.{bits_stay}
+use Rattle.board_model.specs.Nets.{in_force, level, told}
+use Rattle.board_model.proofs.Staying.{bits_stay, in-force-alike}
 use Rattle.wave_files.specs.Changes.{net_change}
 use Rattle.play_drawing.specs.Quiet.{keeps_drives, keeps_levels}
 use Rattle.wave_files.specs.Changes.{IsQuiet, KeepsInstructions}
+use Rattle.wave_files.specs.Drives.{KeepsDrives}
 use Rattle.wave_files.specs.Values.{by_numbers, byte_change, first_of_nets, latch, level_byte}
+use Rattle.wave_files.proofs.Pins.{unchanged}
 
 -- ---- one device
 
@@ -110,13 +115,29 @@ drives_stay Ask b h = absurd cc
 drives_stay Quit b h = absurd cc
 drives_stay (Light on) b h = absurd cc
 
--- ---- what is written of the nets
+-- ---- what pins drive
 
-pub unchanged : (n value : ℕ) → byte_change n value value ≡ []
-unchanged n value = rw (the_same value) refl
-  where
-    the_same : (k : ℕ) → (k == k) ≡ true
-    the_same k = grind arith
+one_alike : (m n : Member) (p : ℕ) → DrivesAlike m n → drive m p ≡ drive n p
+one_alike m n p alike = alike.drives m.core p ∙ ap (λ (core : List Bool). drive (record n { core = core }) p) (sym (ap (λ (q : Member). q.core) alike.same))
+
+-- what a port bit of the device at a place drives
+abbrev drive_at : List Member → (i p : ℕ) → Drive
+drive_at ms i p = unwrap_or (option_map (λ (m : Member). drive m p) (slice_get ms i)) Nothing
+
+place_alike : (x y : List Member) (i p : ℕ) → AllDriveAlike x y → drive_at x i p ≡ drive_at y i p
+place_alike [] [] i p alike = refl
+place_alike [] (b ∷ y) i p alike = absurd alike
+place_alike (a ∷ x) [] i p alike = absurd alike
+place_alike (a ∷ x) (b ∷ y) zero p alike = one_alike a b p alike.0
+place_alike (a ∷ x) (b ∷ y) (suc i) p alike = place_alike x y i p alike.1
+
+pins_stay : (m : Message) (b : BoardState) → keeps_levels m b.chips ≡ true → KeepsDrives b.nets b.chips (after_message m b).chips
+pins_stay m b h pin =
+    let after = (after_message m b).chips in
+    place_alike (in_force b.nets (members b.chips)) (in_force b.nets (members after)) pin.device pin.port
+    (in-force-alike b.nets (members b.chips) (members after) (drives_stay m b h))
+
+-- ---- what is written of the nets
 
 pub none_changed : (nets : List Net) (before after : List ChipState)
     → ((net : Net) → level nets (members before) net ≡ level nets (members after) net)
@@ -198,4 +219,8 @@ instructions_stay Quit b h = absurd cc
 instructions_stay (Light on) b h = absurd cc
 
 pub is_quiet : (m : Message) (b : BoardState) → keeps_levels m b.chips ≡ true → IsQuiet b.nets b.chips (after_message m b).chips
-is_quiet m b h = record { no_net = nets_stay m b h (first_of_nets b.chips); no_instruction = instructions_stay m b h }
+is_quiet m b h = record {
+  no_net = nets_stay m b h (first_of_nets b.chips);
+  no_drive = pins_stay m b h;
+  no_instruction = instructions_stay m b h;
+}

@@ -21,7 +21,7 @@ use Rattle.play_drawing.specs.Settled.{IsSettled, tick, ticked_high, ticked_low,
 use Rattle.wave_files.specs.Values.{byte_change, first_tdo, trst_byte, undriven, unknown, wire}
 use Rattle.play_drawing.proofs.Cycles.{cycle-drawn, cycle-pen}
 use Rattle.play_drawing.proofs.Held.{and_both, and_made, drawn-same, fallen_all, pen, rest_there, risen_all, stay_fallen}
-use Rattle.play_drawing.proofs.Levels.{unchanged}
+use Rattle.wave_files.proofs.Pins.{unchanged}
 use Rattle.play_drawing.proofs.Unmoved.{no_extra_same, unmoved_same}
 
 abbrev counted : ℕ → ℕ

@@ -40,7 +40,7 @@ use Rattle.play_drawing.specs.Quiet.{keeps_drives}
 use Rattle.play_drawing.specs.Shifted.{IsShifting, StandsInShift, all_at, edges, edges_text, high_text, low_text, low_time, next_time, tdo_bit}
 use Rattle.wave_files.specs.Values.{byte_change, byte_line, first_tdo, undriven, wire}
 use Rattle.play_drawing.proofs.Held.{and_both, and_made, later-later}
-use Rattle.play_drawing.proofs.Levels.{unchanged}
+use Rattle.wave_files.proofs.Pins.{unchanged}
 use Rattle.play_drawing.proofs.Messages.{heard_nets}
 use Rattle.play_drawing.proofs.Strokes.{AreAlike, pen}
 use Rattle.play_drawing.proofs.Unmoved.{quiet_lines, states_of}

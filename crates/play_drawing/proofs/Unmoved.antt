@@ -14,10 +14,12 @@ use Rattle.play_drawing.specs.Pens.{Pen}
 use Rattle.play_drawing.specs.Quiet.{keeps_levels}
 use Rattle.wave_files.specs.Changes.{TellsNoNet, KeepsInstructions}
 use Rattle.wave_files.specs.declared.extras.Extras.{Extras}
-use Rattle.wave_files.specs.Extras.{all_extra_changes, draws_any, extra_change, extras_of_device, first_of_extras, tdo_change}
-use Rattle.wave_files.specs.Values.{by_numbers, byte_change, device_change, first_of_devices, latch, state_change, undriven, variables_of_device, wire}
+use Rattle.wave_files.specs.Drives.{KeepsDrives}
+use Rattle.wave_files.specs.Extras.{all_extra_changes, draws_of_devices, extra_change, tdo_change}
+use Rattle.wave_files.specs.Values.{by_numbers, byte_change, device_change, extras_of_device, first_of_devices, first_of_extras, latch, state_change, undriven, variables_of_device, wire}
 use Rattle.wave_files.proofs.Instructions.{no_change, no_name}
-use Rattle.play_drawing.proofs.Levels.{is_quiet, none_changed, unchanged}
+use Rattle.wave_files.proofs.Pins.{no_drive, unchanged}
+use Rattle.play_drawing.proofs.Levels.{is_quiet, none_changed}
 
 -- ---- devices
 
@@ -86,13 +88,15 @@ none_anyway true l e = e
 none_anyway false l e = refl
 
 no_extra : (x : Extras) (nets : List Net) (cs ds : List ChipState) → (x.tdos ≡ false) ⊎ (tdos_of cs ≡ tdos_of ds) → KeepsInstructions cs ds
-    → all_extra_changes x nets cs ds ≡ []
-no_extra x nets cs ds same keep =
-    none_anyway (draws_any x) (by_numbers (extra_change x) extras_of_device (first_of_extras cs nets) (zip cs ds))
-    (no_extras x (first_of_extras cs nets) cs ds same keep)
+    → KeepsDrives nets cs ds → all_extra_changes x nets cs ds ≡ []
+no_extra x nets cs ds same keep drives =
+    ap₂ (λ (a b : List ℕ). a ++ b)
+    (none_anyway (draws_of_devices x) (by_numbers (extra_change x) extras_of_device (first_of_extras cs nets) (zip cs ds))
+    (no_extras x (first_of_extras cs nets) cs ds same keep))
+    (no_drive x.drives nets cs ds drives)
 
 pub no_extra_same : (x : Extras) (nets : List Net) (cs : List ChipState) → all_extra_changes x nets cs cs ≡ []
-no_extra_same x nets cs = no_extra x nets cs cs (inr refl) refl
+no_extra_same x nets cs = no_extra x nets cs cs (inr refl) refl (λ pin. refl)
 
 -- ---- a message
 
@@ -125,4 +129,4 @@ pub quiet_lines : (m : Message) (p : Pen) → p.extras.tdos ≡ false → is_dra
 quiet_lines m p alone drawn seen same keeps =
     let quiet = is_quiet m p.board keeps in
     lines_alone m p drawn seen (unmoved p.board.nets p.board.chips (taken m p).board.chips same quiet.no_instruction quiet.no_net)
-    (no_extra p.extras p.board.nets p.board.chips (taken m p).board.chips (inl alone) quiet.no_instruction)
+    (no_extra p.extras p.board.nets p.board.chips (taken m p).board.chips (inl alone) quiet.no_instruction quiet.no_drive)

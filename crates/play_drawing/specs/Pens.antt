@@ -5,7 +5,7 @@ use Rattle.wave_files.specs.declared.extras.Extras.{Extras}
 use Rattle.wave_files.specs.Extras.{no_extras}
 use Rattle.play_drawing.specs.declared.marks.Marks.{Marks}
 
--- what is drawn of the lines, what of each device besides, and the board
+-- what is drawn of the lines, what of devices and pins besides, and the board
 pub record Pen : Type 0 where
   pub marks : Marks
   pub extras : Extras

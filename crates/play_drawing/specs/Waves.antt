@@ -16,7 +16,7 @@ use Rattle.output_words.specs.Digits.{digit}
 use Rattle.wave_files.specs.declared.extras.Extras.{Extras}
 use Rattle.wave_files.specs.Changes.{stamp}
 use Rattle.wave_files.specs.Codes.{binary}
-use Rattle.wave_files.specs.Heading.{heading_of}
+use Rattle.wave_files.specs.Heading.{first_values, variables}
 use Rattle.wave_files.specs.Values.{bits_line, byte_line, first_of_notes, statement_variable}
 use Rattle.play_drawing.specs.declared.marks.Marks.{Marks}
 use Rattle.play_drawing.specs.Drawing.{after_drawing, draw, shown}
@@ -89,9 +89,13 @@ abbrev pub stopped_in : Kind → Program → BoardState → Option ℕ
 stopped_in Stops program b = failed_in (play program b).ending
 stopped_in PlaysOn program b = None
 
+-- what each variable shows before the first message
+abbrev pub starts : (noted : Bool) → Pen → List ℕ
+starts noted p = first_values noted p.extras (shown p) p.board.chips p.board.nets
+
 -- what stands before the first message
 abbrev pub heading : (noted : Bool) → Pen → List ℕ
-heading noted p = heading_of noted p.extras (shown p) p.board.chips p.board.nets
+heading noted p = variables noted p.extras p.board.chips p.board.nets ++ starts noted p
 
 -- the kind of a player where it is told of the bits that it wants
 abbrev pub noting : (noted : Bool) → Kind → Option Kind
@@ -99,7 +103,7 @@ noting true kind = Some kind
 noting false kind = None
 
 -- The file of a program's play on a board, where this is the period in force at the statement of each number; where
--- `noted` is set it tells of the bits that are wanted, and of each device what the extras say.
+-- `noted` is set it tells of the bits that are wanted, and of devices and pins what the extras say.
 abbrev pub wave_file : (noted : Bool) → Extras → (period_of : ℕ → ℕ) → Kind → Program → BoardState → List ℕ
 wave_file noted x period_of kind program b =
     heading noted (begun x b)

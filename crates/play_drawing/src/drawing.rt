@@ -11,7 +11,7 @@ ghost use Rattle.play_drawing.specs.Pens.{Pen, begun};
 ghost use Rattle.wave_files.specs.Changes.{IsQuiet};
 ghost use Rattle.wave_files.specs.Values as numbers;
 ghost use Rattle.play_drawing.specs.Waves as waves;
-ghost use Rattle.play_drawing.specs.Waves.{heading};
+ghost use Rattle.play_drawing.specs.Waves.{starts};
 
 mod resting;
 mod shifting;
@@ -20,18 +20,19 @@ use crate::holding::is_held_by;
 use crate::marks::{Marks, duration, marks_after, shown_on, time_after};
 use crate::quiet::keeps_levels;
 use bitbang_protocol::{Cycle, Message, encode};
+use board_chain::Chain;
 use byte_streams::{Broken, Counted, Sink, put_all};
 use jt_board::Board;
 use output_words::digit_of;
 use std::marker::Model;
 use wave_files::{
     Extras, STATEMENT_VARIABLE, first_of_notes, write_byte, write_changes, write_extra_changes,
-    write_heading, write_number, write_stamp,
+    write_first_values, write_number, write_stamp,
 };
 
 /// Two boards that take the same messages: what differs between them while one of them has taken a message more is what
-/// that message changed. So a wave takes no memory. Contracts see it as what was drawn last, what is drawn of each
-/// device besides, and the board.
+/// that message changed. So a wave takes no memory. Contracts see it as what was drawn last, what is drawn of devices
+/// and pins besides, and the board.
 #[derive(Drop)]
 pub struct Drawing {
     marks: Marks,
@@ -77,14 +78,24 @@ impl Drawing {
         }
     }
 
-    /// Writes what stands before the first message; where `noted` is set, for waves that tell of the bits that are
-    /// wanted.
-    pub fn head<W: Sink>(&self, noted: bool, out: &mut Counted<W>) -> Result<(), Broken>
+    /// The devices and the nets as they were drawn last.
+    pub fn chain(&self) -> &Chain
+        ensures chips { result.now.chips ≡ self.now.board.chips }
+        ensures nets { result.now.nets ≡ self.now.board.nets }
+        ensures few { length result.now.chips ≤ limits.devices }
+        ensures few_nets { length result.now.nets ≤ limits.nets }
+    {
+        self.ahead.chain()
+    }
+
+    /// Writes what each variable shows before the first message; where `noted` is set, for waves that tell of the bits
+    /// that are wanted.
+    pub fn start<W: Sink>(&self, noted: bool, out: &mut Counted<W>) -> Result<(), Broken>
         requires { out.old.failures ≡ 0 }
-        ensures { WritesAll W.contents out.old out.new (heading noted self.now) result }
+        ensures { WritesAll W.contents out.old out.new (starts noted self.now) result }
     {
         let shown = shown_on(self.marks, &self.ahead);
-        write_heading(noted, self.extras, shown, self.ahead.chain(), out)
+        write_first_values(noted, self.extras, shown, self.ahead.chain(), out)
     }
 
     /// The number of the first variable that tells of the bits that are wanted.

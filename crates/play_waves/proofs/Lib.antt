@@ -1,4 +1,6 @@
 pub mod FailLaws
+pub mod FightLaws
+pub mod PinLaws
 pub mod Drawn
 pub mod PlainLaws
 pub mod Played

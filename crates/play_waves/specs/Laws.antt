@@ -13,7 +13,15 @@ use Rattle.scan_vectors.specs.Failures.{differing}
 use Rattle.scan_vectors.specs.Vector.{VectorBit, judge}
 use Rattle.svf_programs.specs.Steps.{Program, Step}
 use Rattle.tck_cycles.specs.Cycles.{cycles}
-use Rattle.board_model.specs.Chain.{BoardState, ChipState, hear, reply_of, tdi_before}
+use Rattle.pin_nets.specs.declared.Drive.{Drive}
+use Rattle.pin_nets.specs.declared.Drive.TheVariants.{Weak}
+use Rattle.pin_nets.specs.declared.Pin.{Pin}
+use Rattle.pin_nets.specs.declared.Rule.TheVariants.{Counted}
+use Rattle.pin_nets.specs.Levels.{pull_drive}
+use Rattle.pin_nets.specs.Wired.{Net}
+use Rattle.board_model.specs.Chain.{BoardState, ChipState, hear, members, reply_of, tdi_before}
+use Rattle.board_model.specs.Following.{IsAmong}
+use Rattle.board_model.specs.Nets.{level, pin_drive}
 use Rattle.board_model.specs.declared.Reply.TheVariants.{Answer}
 use Rattle.play_model.specs.declared.ending.Ending.TheVariants.{Pass}
 use Rattle.play_model.specs.declared.kind.Kind.{Kind}
@@ -21,7 +29,8 @@ use Rattle.play_model.specs.declared.kind.Kind.TheVariants.{Stops, PlaysOn}
 use Rattle.play_model.specs.Play.{play}
 use Rattle.output_words.specs.Digits.{digit}
 use Rattle.wave_files.specs.declared.extras.Extras.{Extras}
-use Rattle.wave_files.specs.Values.{undriven, wire}
+use Rattle.wave_files.specs.Drives.{drive_byte, driving, weak_byte}
+use Rattle.wave_files.specs.Values.{level_byte, undriven, unknown, wire}
 use Rattle.play_drawing.specs.declared.notes.Note.{Note}
 use Rattle.play_drawing.specs.Drawing.{after_drawing, after_mark, lasts, later, latest, shown}
 use Rattle.play_drawing.specs.Judging.{tdo_of, wanted_behind}
@@ -48,6 +57,29 @@ abbrev pub EachTdoIsHandedOn : Type 0
 EachTdoIsHandedOn = (tdi : Bool) (c : ChipState) (cs : List ChipState)
     → (wire undriven c.tdo ≡ digit (tdi_before tdi (c ∷ cs)))
     ⊎ ((wire undriven c.tdo ≡ undriven) × (tdi_before tdi (c ∷ cs) ≡ true))
+
+-- ---- what pins drive
+
+-- Each drive has a letter of its own.
+abbrev pub EachDriveHasItsLetter : Type 0
+EachDriveHasItsLetter = (d e : Drive) → drive_byte d ≡ drive_byte e → d ≡ e
+
+-- a pin of a net is drawn by this letter
+abbrev pub IsDrawn : ℕ → List Net → List ChipState → Net → Type 0
+IsDrawn letter nets cs net =
+    (pin : Pin) × IsAmong pin net.pins × (drive_byte (pin_drive (driving nets cs) pin) ≡ letter)
+
+-- a pin of a net is drawn as weak at this level, or the net is pulled to it
+abbrev pub IsPulled : Bool → List Net → List ChipState → Net → Type 0
+IsPulled b nets cs net = IsDrawn (weak_byte b) nets cs net ⊎ (pull_drive net.pull ≡ Weak b)
+
+-- On a net that is drawn as contended, whose drivers are counted, it is drawn who fights: a pin at 0 and a pin at 1; or
+-- else weak drivers of both.
+abbrev pub WhoFightsIsDrawn : Type 0
+WhoFightsIsDrawn = (nets : List Net) (cs : List ChipState) (net : Net) → net.rule ≡ Counted
+    → level_byte (level nets (members cs) net) ≡ unknown
+    → (IsDrawn (digit false) nets cs net × IsDrawn (digit true) nets cs net)
+    ⊎ (IsPulled false nets cs net × IsPulled true nets cs net)
 
 -- ---- time
 

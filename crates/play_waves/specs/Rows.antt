@@ -3,6 +3,7 @@ use Rattle.std.specs.Prelude.{◌≡◌, true, false, ℕ, List, [], ◌∷◌, 
 use Rattle.std.specs.Prelude.{replicate, take}
 use Rattle.bitbang_protocol.specs.declared.Message.{Message}
 use Rattle.bitbang_protocol.specs.declared.Message.TheVariants.{Write}
+use Rattle.pin_nets.specs.declared.Drive.TheVariants.{Nothing, Weak}
 use Rattle.board_model.specs.Bare.{bare_board}
 use Rattle.board_model.specs.Chain.{BoardState}
 use Rattle.play_model.specs.declared.kind.Kind.{Kind}
@@ -13,10 +14,12 @@ use Rattle.wave_files.specs.Codes.{code}
 use Rattle.play_drawing.specs.Drawing.{after_drawing, draw}
 use Rattle.wave_files.specs.declared.extras.Extras.{Extras}
 use Rattle.wave_files.specs.Changes.{stamp}
+use Rattle.wave_files.specs.Drives.{drive_byte}
 use Rattle.wave_files.specs.Extras.{no_extras}
+use Rattle.wave_files.specs.Values.{byte_line}
 use Rattle.play_drawing.specs.Waves.{heading}
 use Rattle.play_drawing.specs.Pens.{Pen, begun}
-use Rattle.play_waves.specs.Samples.{asserting, delayed, driving, failing, pair, selecting, waiting}
+use Rattle.play_waves.specs.Samples.{asserting, delayed, driving, failing, pair, rivals, selecting, waiting}
 use Rattle.play_drawing.specs.Waves.{begins, wave}
 
 abbrev pub fresh : Pen
@@ -79,7 +82,11 @@ turn number messages = written number ++ all_written messages
 
 -- the names of instructions and each device's TDO besides
 abbrev pub both : Extras
-both = record { names = true; tdos = true }
+both = record no_extras { names = true; tdos = true }
+
+-- what each pin drives besides
+abbrev pub pins : Extras
+pins = record no_extras { drives = true }
 
 -- the wave behind so many turns, as above, with these
 abbrev pub extra_behind : Extras → (count : ℕ) → List Numbered → BoardState → List ℕ
@@ -92,6 +99,8 @@ pub record WaveRows : Type 0 where
   pub first_of_two : code 94 ≡ codes "!\""
   pub last_of_two : code 8835 ≡ codes "~~"
   pub first_of_three : code 8836 ≡ codes "!!\""
+  pub last_of_three : code 830583 ≡ codes "~~~"
+  pub first_of_four : code 830584 ≡ codes "!!!\""
   pub heading_row : heading false fresh
       ≡ codes "$timescale 1 ps $end\n$scope module board $end\n$scope module tap $end\n$var wire 1 ! TCK $end\n"
       ++ (codes "$var wire 1 \" TMS $end\n$var wire 1 # TDI $end\n$var wire 1 $ TDO $end\n"
@@ -226,3 +235,43 @@ pub record WaveRows : Type 0 where
       ∷ at 10 (codes "0!\n0\"\nb00 )\nsEXTEST 2\n")
       ∷ at 11 (codes "1!\nb1100 '\nsIDLE (\nb1100 *\nsIDLE +\n") ∷ at 11 (codes "0!\n") ∷ [])
       ++ (stamp 12 ++ [])
+  -- with what pins drive: their variables come last, in a scope of their net
+  pub heading_of_pins : heading false (begun pins rivals)
+      ≡ codes "$timescale 1 ps $end\n$scope module board $end\n$scope module tap $end\n$var wire 1 ! TCK $end\n"
+      ++ (codes "$var wire 1 \" TMS $end\n$var wire 1 # TDI $end\n$var wire 1 $ TDO $end\n"
+      ++ (codes "$var wire 1 % TRST $end\n$var integer 32 & statement $end\n$upscope $end\n$scope module U1 $end\n"
+      ++ (codes "$var reg 4 ' U1_state $end\n$var string 1 ( U1_word $end\n$var reg 2 ) U1_instruction $end\n"
+      ++ (codes "$upscope $end\n$scope module U2 $end\n$var reg 4 * U2_state $end\n$var string 1 + U2_word $end\n"
+      ++ (codes "$var reg 2 , U2_instruction $end\n$upscope $end\n$var wire 1 - N $end\n$scope module N $end\n"
+      ++ (codes "$var wire 1 6 N_U1_Q $end\n$var wire 1 7 N_U2_Q $end\n$upscope $end\n$upscope $end\n"
+      ++ (codes "$enddefinitions $end\n#0\n$dumpvars\n0!\nx\"\nx#\nz$\n1%\nb0 &\n"
+      ++ codes "b1111 '\nsRESET (\nb11 )\nb1111 *\nsRESET +\nb11 ,\n0-\n06\n07\n$end\n")))))))
+  -- In EXTEST U1 only pulls: its pin is told, and the net stays.
+  pub pulls_row : extra_behind pins 1 (selecting ∷ []) rivals
+      ≡ turn (at 0 (codes "b1 &\n"))
+      (at 0 [] ∷ at 1 (codes "1!\nb1100 '\nsIDLE (\nb1100 *\nsIDLE +\n") ∷ at 1 (codes "0!\n1\"\n")
+      ∷ at 2 (codes "1!\nb0111 '\nsDRSELECT (\nb0111 *\nsDRSELECT +\n") ∷ at 2 (codes "0!\n")
+      ∷ at 3 (codes "1!\nb0100 '\nsIRSELECT (\nb0100 *\nsIRSELECT +\n") ∷ at 3 (codes "0!\n0\"\n")
+      ∷ at 4 (codes "1!\nb1110 '\nsIRCAPTURE (\nb1110 *\nsIRCAPTURE +\n") ∷ at 4 (codes "0!\n")
+      ∷ at 5 (codes "1!\nb1010 '\nsIRSHIFT (\nb1010 *\nsIRSHIFT +\n") ∷ at 5 (codes "0!\n1$\n")
+      ∷ at 6 (codes "1!\n") ∷ at 6 (codes "0!\n0$\n") ∷ at 7 (codes "1!\n") ∷ at 7 (codes "0!\n1#\n1$\n")
+      ∷ at 8 (codes "1!\n") ∷ at 8 (codes "0!\n1\"\n0$\n")
+      ∷ at 9 (codes "1!\nb1001 '\nsIREXIT1 (\nb1001 *\nsIREXIT1 +\n") ∷ at 9 (codes "0!\n0#\nz$\n")
+      ∷ at 10 (codes "1!\nb1101 '\nsIRUPDATE (\nb1101 *\nsIRUPDATE +\n")
+      ∷ at 10 (codes "0!\n0\"\nb00 )\nh6\n")
+      ∷ at 11 (codes "1!\nb1100 '\nsIDLE (\nb1100 *\nsIDLE +\n") ∷ at 11 (codes "0!\n") ∷ [])
+      ++ (stamp 12 ++ [])
+  -- Enabled, with a 1, it fights U2.
+  pub fights_row : extra_behind pins 2 (selecting ∷ driving ∷ []) rivals
+      ≡ turn (at 0 (codes "b10 &\n"))
+      (at 0 (codes "1\"\n") ∷ at 1 (codes "1!\nb0111 '\nsDRSELECT (\nb0111 *\nsDRSELECT +\n")
+      ∷ at 1 (codes "0!\n0\"\n") ∷ at 2 (codes "1!\nb0110 '\nsDRCAPTURE (\nb0110 *\nsDRCAPTURE +\n")
+      ∷ at 2 (codes "0!\n") ∷ at 3 (codes "1!\nb0010 '\nsDRSHIFT (\nb0010 *\nsDRSHIFT +\n")
+      ∷ at 3 (codes "0!\n1#\n0$\n") ∷ at 4 (codes "1!\n") ∷ at 4 (codes "0!\n1$\n") ∷ at 5 (codes "1!\n")
+      ∷ at 5 (codes "0!\n1\"\n0#\n0$\n") ∷ at 6 (codes "1!\nb0001 '\nsDREXIT1 (\nb0001 *\nsDREXIT1 +\n")
+      ∷ at 6 (codes "0!\nz$\n") ∷ at 7 (codes "1!\nb0101 '\nsDRUPDATE (\nb0101 *\nsDRUPDATE +\n")
+      ∷ at 7 (codes "0!\n0\"\nx-\n16\n") ∷ at 8 (codes "1!\nb1100 '\nsIDLE (\nb1100 *\nsIDLE +\n")
+      ∷ at 8 (codes "0!\n") ∷ [])
+      ++ (stamp 9 ++ [])
+  pub weak_zero : byte_line 21 (drive_byte (Weak false)) ≡ codes "l6\n"
+  pub nothing_driven : byte_line 21 (drive_byte Nothing) ≡ codes "z6\n"

@@ -3,7 +3,7 @@ use Rattle.std.specs.Prelude.{Bool, true, false, [], ◌∷◌, ◌++◌, map, c
 use Rattle.jt_tap.specs.declared.Column.TheVariants.{Dr, Ir}
 use Rattle.jt_tap.specs.declared.State.TheVariants.{Idle}
 use Rattle.bsdl_device.specs.Device.{Device}
-use Rattle.bsdl_device.specs.declared.Disabled.TheVariants.{Z}
+use Rattle.bsdl_device.specs.declared.Disabled.TheVariants.{Weak1, Z}
 use Rattle.bsdl_device.specs.declared.Function.TheVariants.{Control, Output3}
 use Rattle.bsdl_device.specs.declared.PortMode.TheVariants.{Out}
 use Rattle.pin_nets.specs.Wired.{Net}
@@ -41,6 +41,29 @@ driven = record { name = codes "N"; pull = Free; rule = Counted; pins = record {
 abbrev pub pair : BoardState
 pair = board_at_rest (power_up (driven ∷ [])
     (powered (codes "U1") driver (false ∷ false ∷ []) [] false ∷ bare_member (codes "U2") ∷ []))
+
+-- The driver, whose port drives a weak 1 while the control has a 0.
+abbrev pub pulling : Device
+pulling = record driver {
+  cells =
+      record {
+        function = Output3;
+        port = Some 4;
+        control = Some (record { cell = 1; disabling = false; leaves = Weak1 });
+      }
+      ∷ record { function = Control; port = None; control = None }
+      ∷ [];
+}
+
+-- the ports of both devices
+abbrev pub shared : Net
+shared = record driven { pins = record { device = 0; port = 4 } ∷ record { device = 1; port = 4 } ∷ [] }
+
+-- Two drivers of net N, whose cores drive 0. The nearest TDO pulls where it is disabled.
+abbrev pub rivals : BoardState
+rivals = board_at_rest (power_up (shared ∷ [])
+    (powered (codes "U1") pulling (false ∷ true ∷ []) [] false
+    ∷ powered (codes "U2") driver (false ∷ true ∷ []) [] false ∷ []))
 
 -- a bit of a scan: what goes in, and what is wanted
 abbrev pub bit : Bool → Option Bool → VectorBit

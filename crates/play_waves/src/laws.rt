@@ -1,7 +1,8 @@
 //! What holds of every wave, and worked waves.
 
-ghost use Rattle.play_waves.specs.Laws.{APassIsDrawnToItsEnd, EachStepTakesItsCycles, EachTdoIsHandedOn};
-ghost use Rattle.play_waves.specs.Laws.{TdoDrawnIsTheAnswer, TimeGoesOn, WhatFailsIsTold, WhatIsDrawnIsTheBoard};
+ghost use Rattle.play_waves.specs.Laws.{APassIsDrawnToItsEnd, EachDriveHasItsLetter, EachStepTakesItsCycles};
+ghost use Rattle.play_waves.specs.Laws.{EachTdoIsHandedOn, TdoDrawnIsTheAnswer, TimeGoesOn, WhatFailsIsTold};
+ghost use Rattle.play_waves.specs.Laws.{WhatIsDrawnIsTheBoard, WhoFightsIsDrawn};
 ghost use Rattle.play_waves.specs.Rows.{WaveRows};
 
 /// Behind any messages what is drawn is the board that took them; and TDO as it is drawn then is the byte with which
@@ -10,6 +11,13 @@ pub fn what_is_drawn_is_played()
     ensures board { WhatIsDrawnIsTheBoard }
     ensures tdo { TdoDrawnIsTheAnswer }
     ensures tdos { EachTdoIsHandedOn }
+{}
+
+/// What pins drive is drawn by letters that tell drives apart; so on a net that is drawn as contended, whose drivers are
+/// counted, it is drawn who fights: pins at 0 and at 1, or else weak drivers of both.
+pub fn who_fights_is_drawn()
+    ensures letters { EachDriveHasItsLetter }
+    ensures fights { WhoFightsIsDrawn }
 {}
 
 /// Messages last one after another, up to the last time that is told; a step lasts a period for each of its cycles, and

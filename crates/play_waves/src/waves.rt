@@ -19,13 +19,13 @@ ghost use Rattle.play_drawing.specs.Drawing.{after_drawing};
 ghost use Rattle.play_drawing.specs.Judging.{draw_judging};
 ghost use Rattle.play_drawing.specs.Notes.{no_note};
 ghost use Rattle.wave_files.specs.Values as numbers;
-ghost use Rattle.play_drawing.specs.Waves.{heading};
 ghost use Rattle.play_drawing.specs.Pens.{begun};
 ghost use Rattle.play_waves.specs.Stages.{judge_for};
 ghost use Rattle.play_waves.specs.Texts.{Draws};
 ghost use Rattle.play_drawing.specs.Waves as spec;
 
 use crate::stage::Stage;
+use crate::variables::write_variables;
 use byte_streams::{Broken, Counted, Sink};
 use jt_board::Board;
 use jt_tap::State;
@@ -38,8 +38,8 @@ use tck_cycles::{Source, place_after};
 use wave_files::Extras;
 
 /// Writes the wave file of an accepted program, which is lent, as the player of a stage plays it on its board. Where
-/// `noted` is set, the file tells of the bits that are wanted, and of those that fail; of each device it tells besides
-/// what `extras` says. It takes no memory.
+/// `noted` is set, the file tells of the bits that are wanted, and of those that fail; of devices and pins it tells
+/// besides what `extras` says. It takes no memory.
 ///
 /// `Broken` comes exactly where the writer's first failure came in this call.
 pub fn write_waves<W: Sink>(
@@ -75,7 +75,8 @@ fn write_file<W: Sink>(
     let kind = noting(noted, stage.kind());
     let (judge, mut drawing) = stage.opened(extras);
     let failed = stopped_in(program, judge);
-    drawing.head(noted, out)?;
+    write_variables(noted, extras, drawing.chain(), out)?;
+    drawing.start(noted, out)?;
     draw_program(program, kind, failed, &mut drawing, out)
 }
 

@@ -3,7 +3,7 @@ use Rattle.std.proofs.Common.{◌≡◌, ◌<◌, ◌+◌, ◌*◌, ℕ, Bool, t
 use Rattle.std.specs.Prelude.{◌/◌, ◌%◌, slice_get, unwrap_or}
 use Rattle.std.proofs.lemmas.Bool.{eqb-true}
 use Rattle.std.proofs.Math.Nat.{div-add-mod}
-use Rattle.wave_files.specs.Codes.{code_digit, further_digits}
+use Rattle.wave_files.specs.Codes.{code_digit, further_digits, last_digits}
 use Rattle.wave_files.specs.Laws.{CodesDiffer, CodesSuffice}
 
 abbrev head_of : List ℕ → ℕ
@@ -33,10 +33,17 @@ rests say m n some told e = by (m == 0) refl (n == 0) refl e
 last_digit : (m n : ℕ) → m < 94 → n < 94 → code_digit m ∷ [] ≡ code_digit n ∷ [] → m ≡ n
 last_digit m n a b e = let r = same_digit m n [] [] e in omega (arith, r, a, b)
 
-further : (m n : ℕ) → m < 94 * 94 → n < 94 * 94 → further_digits m ≡ further_digits n → m ≡ n
-further m n a b e =
+last : (m n : ℕ) → m < 94 * 94 → n < 94 * 94 → last_digits m ≡ last_digits n → m ≡ n
+last m n a b e =
     whole m n
     (rests (λ (q : ℕ). code_digit q ∷ []) (m / 94) (n / 94) (λ q none. cc) (last_digit (m / 94) (n / 94) (omega (arith, a)) (omega (arith, b)))
+    (tails (code_digit m) (code_digit n) _ _ e))
+    (same_digit m n _ _ e)
+
+further : (m n : ℕ) → m < 94 * 94 * 94 → n < 94 * 94 * 94 → further_digits m ≡ further_digits n → m ≡ n
+further m n a b e =
+    whole m n
+    (rests last_digits (m / 94) (n / 94) (λ q none. cc) (last (m / 94) (n / 94) (omega (arith, a)) (omega (arith, b)))
     (tails (code_digit m) (code_digit n) _ _ e))
     (same_digit m n _ _ e)
 

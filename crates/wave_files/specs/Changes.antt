@@ -4,6 +4,7 @@ use Rattle.pin_nets.specs.Wired.{Net}
 use Rattle.board_model.specs.Chain.{ChipState, members}
 use Rattle.board_model.specs.Nets.{level}
 use Rattle.wave_files.specs.declared.shown.Shown.{Shown}
+use Rattle.wave_files.specs.Drives.{KeepsDrives}
 use Rattle.wave_files.specs.Values.{by_numbers, byte_change, device_change, first_of_devices, first_of_nets}
 use Rattle.wave_files.specs.Values.{latch, level_byte, variables_of_device}
 
@@ -28,7 +29,7 @@ board_changes nets before after =
     by_numbers device_change variables_of_device first_of_devices (zip before after)
     ++ by_numbers (net_change nets before after) 1 (first_of_nets before) nets
 
--- ---- nothing changed of nets and instructions
+-- ---- nothing changed of nets, pins and instructions
 
 -- nothing is told of any net
 abbrev pub TellsNoNet : List Net → (before after : List ChipState) → Type 0
@@ -40,6 +41,7 @@ KeepsInstructions before after = map latch before ≡ map latch after
 
 pub record IsQuiet (nets : List Net) (before after : List ChipState) : Type 0 where
   pub no_net : TellsNoNet nets before after
+  pub no_drive : KeepsDrives nets before after
   pub no_instruction : KeepsInstructions before after
 
 -- ---- time

@@ -18,11 +18,15 @@ base = 94
 abbrev pub code_digit : ℕ → ℕ
 code_digit n = n % base + first_digit
 
--- a number's digits from the second on: one or two
-abbrev pub further_digits : ℕ → List ℕ
-further_digits n = code_digit n ∷ (if n / base == 0 then [] else code_digit (n / base) ∷ [])
+-- a number's digits from the third on: one or two
+abbrev pub last_digits : ℕ → List ℕ
+last_digits n = code_digit n ∷ (if n / base == 0 then [] else code_digit (n / base) ∷ [])
 
--- A variable's code is its number in that base, the lowest digit first, of one to three digits.
+-- and from the second on: up to three
+abbrev pub further_digits : ℕ → List ℕ
+further_digits n = code_digit n ∷ (if n / base == 0 then [] else last_digits (n / base))
+
+-- A variable's code is its number in that base, the lowest digit first, of one to four digits.
 abbrev pub code : ℕ → List ℕ
 code n = code_digit n ∷ (if n / base == 0 then [] else further_digits (n / base))
 

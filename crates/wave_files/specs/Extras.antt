@@ -1,4 +1,5 @@
--- What is drawn of devices besides, where it is asked for: the name of the instruction, and TDO.
+-- What is drawn besides, where it is asked for: of devices the name of the instruction, and TDO; and of pins what they
+-- drive.
 use Rattle.std.specs.Prelude.{ℕ, ◌+◌, Bool, false, ◌||◌, List, [], ◌++◌, zip, codes, Option, Some, None}
 use Rattle.std.specs.Prelude.{if◌then◌else◌}
 use Rattle.std.specs.Cmp.Lexicographic.{pointwise}
@@ -7,23 +8,16 @@ use Rattle.chip_instructions.specs.Instruction.{instruction}
 use Rattle.pin_nets.specs.Wired.{Net}
 use Rattle.board_model.specs.Chain.{ChipState}
 use Rattle.wave_files.specs.declared.extras.Extras.{Extras}
-use Rattle.wave_files.specs.Values.{by_numbers, byte_change, byte_line, first_of_notes, latch, undriven}
-use Rattle.wave_files.specs.Values.{variables_of_notes, wire, word_line}
+use Rattle.wave_files.specs.Drives.{drive_changes, drive_lines}
+use Rattle.wave_files.specs.Values.{by_numbers, byte_change, byte_line, extras_of_device, first_of_extras, latch}
+use Rattle.wave_files.specs.Values.{undriven, wire, word_line}
 
 abbrev pub no_extras : Extras
-no_extras = record { names = false; tdos = false }
+no_extras = record { names = false; tdos = false; drives = false }
 
--- whether anything is drawn besides
-abbrev pub draws_any : Extras → Bool
-draws_any x = x.names || x.tdos
-
--- A device has two variables more: the name of its instruction, and its TDO. They have the last numbers, behind those
--- that tell of the bits that scans want, whether these are drawn or not.
-abbrev pub extras_of_device : ℕ
-extras_of_device = 2
-
-abbrev pub first_of_extras : List ChipState → List Net → ℕ
-first_of_extras cs nets = first_of_notes cs nets + variables_of_notes
+-- whether anything is drawn of devices besides
+abbrev pub draws_of_devices : Extras → Bool
+draws_of_devices x = x.names || x.tdos
 
 -- ---- values
 
@@ -47,9 +41,13 @@ abbrev pub extra_lines : Extras → ℕ → ChipState → List ℕ
 extra_lines x n c = name_line x.names n c ++ tdo_line x.tdos (n + 1) c
 
 -- of all devices
+abbrev pub device_extra_lines : Extras → List ChipState → List Net → List ℕ
+device_extra_lines x cs nets =
+    if draws_of_devices x then by_numbers (extra_lines x) extras_of_device (first_of_extras cs nets) cs else []
+
+-- of devices and pins
 abbrev pub all_extra_lines : Extras → List ChipState → List Net → List ℕ
-all_extra_lines x cs nets =
-    if draws_any x then by_numbers (extra_lines x) extras_of_device (first_of_extras cs nets) cs else []
+all_extra_lines x cs nets = device_extra_lines x cs nets ++ drive_lines x.drives cs nets
 
 -- ---- changes
 
@@ -65,7 +63,12 @@ abbrev pub extra_change : Extras → ℕ → ChipState × ChipState → List ℕ
 extra_change x n c = name_change x.names n c.0 c.1 ++ tdo_change x.tdos (n + 1) c.0 c.1
 
 -- of all devices
+abbrev pub device_extra_changes : Extras → List Net → (before after : List ChipState) → List ℕ
+device_extra_changes x nets before after =
+    if draws_of_devices x
+    then by_numbers (extra_change x) extras_of_device (first_of_extras before nets) (zip before after) else []
+
+-- of devices and pins
 abbrev pub all_extra_changes : Extras → List Net → (before after : List ChipState) → List ℕ
 all_extra_changes x nets before after =
-    if draws_any x
-    then by_numbers (extra_change x) extras_of_device (first_of_extras before nets) (zip before after) else []
+    device_extra_changes x nets before after ++ drive_changes x.drives nets before after

@@ -1,16 +1,20 @@
 -- What stands before the first time: the variables in their scopes, and what each shows at the start (IEEE Std
 -- 1364-2001, clause 18). Names of devices and nets are letters, digits and `_`, as board files have them.
-use Rattle.std.specs.Prelude.{ℕ, ◌+◌, Bool, false, List, [], ◌++◌, length, codes, decimal, if◌then◌else◌}
+use Rattle.std.specs.Prelude.{ℕ, ◌+◌, Bool, false, List, [], ◌∷◌, ◌++◌, length, codes, decimal, if◌then◌else◌}
+use Rattle.std.specs.Prelude.{option_map, slice_get, unwrap_or}
+use Rattle.pin_nets.specs.declared.Pin.{Pin}
 use Rattle.pin_nets.specs.Wired.{Net}
+use Rattle.board_description.specs.Words.{port_of}
 use Rattle.board_model.specs.Chain.{ChipState, members}
 use Rattle.board_model.specs.Nets.{level}
 use Rattle.wave_files.specs.Codes.{code}
 use Rattle.wave_files.specs.declared.extras.Extras.{Extras}
 use Rattle.wave_files.specs.declared.shown.Shown.{Shown}
 use Rattle.output_words.specs.Digits.{digit}
-use Rattle.wave_files.specs.Extras.{all_extra_lines, draws_any, extras_of_device, first_of_extras}
-use Rattle.wave_files.specs.Values.{bits_line, by_numbers, byte_line, device_lines, first_of_devices, first_of_nets}
-use Rattle.wave_files.specs.Values.{first_of_notes, latch, level_byte, unknown, variables_of_device, word_line}
+use Rattle.wave_files.specs.Extras.{all_extra_lines, draws_of_devices}
+use Rattle.wave_files.specs.Values.{bits_line, by_numbers, byte_line, device_lines, extras_of_device, first_of_devices}
+use Rattle.wave_files.specs.Values.{first_of_drives, first_of_extras, first_of_nets, first_of_notes, latch, level_byte}
+use Rattle.wave_files.specs.Values.{unknown, variables_of_device, word_line}
 
 -- ---- the variables
 
@@ -81,9 +85,41 @@ extras_named x n device =
 abbrev pub extra_variables : Extras → ℕ → ChipState → List ℕ
 extra_variables x n c = extras_named x n c.member.name
 
+-- of all devices
+abbrev pub device_extra_variables : Extras → List ChipState → List Net → List ℕ
+device_extra_variables x cs nets =
+    if draws_of_devices x then by_numbers (extra_variables x) extras_of_device (first_of_extras cs nets) cs else []
+
+-- the front of a name: `U1_`
+abbrev pub fronted : (name : List ℕ) → List ℕ
+fronted name = name ++ codes "_"
+
+-- a pin by its device, and its port as board files write it: `U1_D(2)`
+abbrev pub pin_name : List ChipState → Pin → List ℕ
+pin_name cs pin =
+    unwrap_or
+    (option_map (λ c. fronted c.member.name ++ port_of c.member.device pin.port) (slice_get cs pin.device)) []
+
+-- what a pin of a net drives, by a name that begins with the net's: `BUS2_U1_D(2)`
+abbrev pub drive_variable : List ChipState → (net : List ℕ) → ℕ → Pin → List ℕ
+drive_variable cs net n pin = variable (codes "wire 1") n (fronted net ++ pin_name cs pin)
+
+-- The pins of a net stand in a scope of its name ..
+abbrev pub net_scope : List ChipState → ℕ → Net → List ℕ
+net_scope cs n net =
+    scope net.name ++ (by_numbers (drive_variable cs net.name) 1 n net.pins ++ codes "$upscope $end\n")
+
+-- .. and have their numbers net after net.
+abbrev pub net_scopes : List ChipState → ℕ → List Net → List ℕ
+net_scopes cs n [] = []
+net_scopes cs n (net ∷ nets) = net_scope cs n net ++ net_scopes cs (n + length net.pins) nets
+
+abbrev pub drive_variables : (drives : Bool) → List ChipState → List Net → List ℕ
+drive_variables drives cs nets = if drives then net_scopes cs (first_of_drives cs nets) nets else []
+
+-- of devices and pins
 abbrev pub all_extra_variables : Extras → List ChipState → List Net → List ℕ
-all_extra_variables x cs nets =
-    if draws_any x then by_numbers (extra_variables x) extras_of_device (first_of_extras cs nets) cs else []
+all_extra_variables x cs nets = device_extra_variables x cs nets ++ drive_variables x.drives cs nets
 
 abbrev pub variables : (noted : Bool) → Extras → List ChipState → List Net → List ℕ
 variables noted x cs nets =
@@ -129,6 +165,3 @@ first_values noted x s cs nets =
     ++ (first_number
     ++ (board_lines cs nets
     ++ (noted_values noted (first_of_notes cs nets) ++ (all_extra_lines x cs nets ++ codes "$end\n")))))
-
-abbrev pub heading_of : (noted : Bool) → Extras → Shown → List ChipState → List Net → List ℕ
-heading_of noted x s cs nets = variables noted x cs nets ++ first_values noted x s cs nets

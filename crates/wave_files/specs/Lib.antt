@@ -1,5 +1,6 @@
 pub mod Changes
 pub mod Codes
+pub mod Drives
 pub mod Extras
 pub mod Heading
 pub mod Laws

@@ -127,9 +127,21 @@ first_of_devices = 6
 abbrev pub first_of_nets : List ChipState → ℕ
 first_of_nets cs = first_of_devices + variables_of_device * length cs
 
--- and last, where they are drawn, what is told of the bits that scans want
+-- and where they are drawn, what is told of the bits that scans want
 abbrev pub first_of_notes : List ChipState → List Net → ℕ
 first_of_notes cs nets = first_of_nets cs + length nets
 
 abbrev pub variables_of_notes : ℕ
 variables_of_notes = 4
+
+-- Behind these, whether they are drawn or not, each device has two variables more: the name of its instruction, and its
+-- TDO ..
+abbrev pub extras_of_device : ℕ
+extras_of_device = 2
+
+abbrev pub first_of_extras : List ChipState → List Net → ℕ
+first_of_extras cs nets = first_of_notes cs nets + variables_of_notes
+
+-- .. and last each pin of the named nets has one, net after net.
+abbrev pub first_of_drives : List ChipState → List Net → ℕ
+first_of_drives cs nets = first_of_extras cs nets + extras_of_device * length cs

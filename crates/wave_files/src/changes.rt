@@ -14,6 +14,7 @@ ghost use Rattle.wave_files.specs.Values.{instruction_change, latch, level_byte,
 ghost use Rattle.wave_files.specs.Values.{variables_of_device};
 
 use crate::codes::{write_byte, write_instruction, write_state};
+use crate::numbering::{FIRST_OF_DEVICES, VARIABLES_OF_DEVICE};
 use crate::shown::{Shown, UNDRIVEN, UNKNOWN};
 use crate::stamps::write_time;
 use board_chain::{Chain, WiredChip};
@@ -21,13 +22,6 @@ use byte_streams::{Broken, Counted, Sink, put_all};
 use jt_bits::Bits;
 use jt_tap::State;
 use pin_nets::Level;
-
-/// The number of the variable that shows which statement is played.
-pub const STATEMENT_VARIABLE: usize = 5;
-/// The number of the first variable of the first device.
-pub(crate) const FIRST_OF_DEVICES: usize = 6;
-/// So many variables has a device.
-pub(crate) const VARIABLES_OF_DEVICE: usize = 3;
 
 /// Writes each line of the TAP but TCK that changed.
 fn write_further_lines<W: Sink>(

@@ -3,7 +3,7 @@
 ghost use Rattle.std.specs.Prelude.{◌≡◌, ◌<◌, ◌≤◌, ◌+◌, ◌++◌, ◌∷◌, []};
 ghost use Rattle.byte_streams.specs.Writes.{WritesAll};
 ghost use Rattle.wave_files.specs.Codes as spec;
-ghost use Rattle.wave_files.specs.Codes.{base, binary, code, code_digit, further_digits};
+ghost use Rattle.wave_files.specs.Codes.{base, binary, code, code_digit, further_digits, last_digits};
 ghost use Rattle.wave_files.specs.Values.{byte_line, bits_line, ended, instruction_line, state_lines, word_line};
 
 use crate::binary::binary_digits;
@@ -25,11 +25,9 @@ const FIRST_CODE_IN_FORM: usize = 6;
 const SECOND_CODE_FROM_END: usize = 2;
 
 /// Writes the code of a variable, and one byte behind it.
-pub(crate) fn write_code<W: Sink>(
-    number: usize,
-    last: u8,
-    out: &mut Counted<W>,
-) -> Result<(), Broken>
+///
+/// `Broken` comes exactly where the writer's first failure came in this call.
+pub fn write_code<W: Sink>(number: usize, last: u8, out: &mut Counted<W>) -> Result<(), Broken>
     requires { out.old.failures ≡ 0 }
     ensures { WritesAll W.contents out.old out.new (code number ++ last ∷ []) result }
 {
@@ -37,15 +35,28 @@ pub(crate) fn write_code<W: Sink>(
     if further == 0 {
         return put_all(out, &[digit_of_code(number), last]);
     }
-    if further / BASE == 0 {
+    let third = further / BASE;
+    if third == 0 {
         return put_all(out, &[digit_of_code(number), digit_of_code(further), last]);
+    }
+    if third / BASE == 0 {
+        return put_all(
+            out,
+            &[
+                digit_of_code(number),
+                digit_of_code(further),
+                digit_of_code(third),
+                last,
+            ],
+        );
     }
     put_all(
         out,
         &[
             digit_of_code(number),
             digit_of_code(further),
-            digit_of_code(further / BASE),
+            digit_of_code(third),
+            digit_of_code(third / BASE),
             last,
         ],
     )

@@ -1,161 +1,46 @@
-//! What is drawn of devices besides, where it is asked for: the name of the instruction, and TDO.
+//! What is drawn besides, where it is asked for: of devices the name of the instruction, and TDO; and of pins what they
+//! drive.
 
 ghost use Rattle.std.specs.Prelude.{◌≡◌, ◌≤◌, true, length, zip};
 ghost use Rattle.byte_streams.specs.Writes.{WritesAll};
 ghost use Rattle.jt_limits.specs.Limits.{limits};
 ghost use Rattle.board_chips.specs.WiredChips.{chip_state};
-ghost use Rattle.wave_files.specs.Changes.{KeepsInstructions};
+ghost use Rattle.wave_files.specs.Changes.{IsQuiet, KeepsInstructions};
 ghost use Rattle.wave_files.specs.Extras as spec;
-ghost use Rattle.wave_files.specs.Extras.{all_extra_changes, all_extra_lines, extra_change, extra_lines};
-ghost use Rattle.wave_files.specs.Extras.{extras_of_device};
-ghost use Rattle.wave_files.specs.Heading as heading;
-ghost use Rattle.wave_files.specs.Heading.{all_extra_variables, extra_variables, extras_named};
+ghost use Rattle.wave_files.specs.Extras.{all_extra_changes, all_extra_lines, device_extra_changes, device_extra_lines};
+ghost use Rattle.wave_files.specs.Extras.{extra_change, extra_lines};
 ghost use Rattle.wave_files.specs.Values as values;
-ghost use Rattle.wave_files.specs.Values.{by_numbers, latch};
+ghost use Rattle.wave_files.specs.Values.{by_numbers, extras_of_device, latch};
 
 use crate::changes::{are_same, write_byte_change};
 use crate::codes::{write_byte, write_word_line};
-use crate::heading::{first_of_notes, write_named, write_scope};
+use crate::drives::{write_drive_changes, write_drive_values};
+use crate::numbering::{EXTRAS_OF_DEVICE, first_of_extras};
 use crate::shown::{UNDRIVEN, wire};
 use board_chain::{Chain, WiredChip};
 use byte_streams::{Broken, Counted, Sink, put_all};
 
-/// So many variables tell of the bits that scans want, whether they are drawn or not.
-const VARIABLES_OF_NOTES: usize = 4;
-/// So many variables more has a device.
-const EXTRAS_OF_DEVICE: usize = 2;
-
-/// What is drawn of each device besides what always is.
+/// What is drawn besides what always is.
 #[derive(Debug, Clone, Copy, PartialEq, Eq)]
 pub struct Extras {
-    /// The name of its instruction, as a string.
+    /// The name of each device's instruction, as a string.
     pub names: bool,
-    /// Its TDO.
+    /// Each device's TDO.
     pub tdos: bool,
+    /// What each pin of a named net drives.
+    pub drives: bool,
 }
 
 impl Extras {
     ghost use Rattle.std.specs.Prelude.{◌≡◌};
-    ghost use Rattle.wave_files.specs.Extras.{draws_any};
+    ghost use Rattle.wave_files.specs.Extras.{draws_of_devices};
 
-    /// Whether anything is drawn besides.
-    pub fn any(self) -> bool
-        ensures { result ≡ draws_any self }
+    /// Whether anything is drawn of devices besides.
+    pub fn of_devices(self) -> bool
+        ensures { result ≡ draws_of_devices self }
     {
         self.names || self.tdos
     }
-}
-
-/// The number of the first variable of what is drawn besides.
-fn first_of_extras(chain: &Chain) -> usize
-    requires few { length chain.now.chips ≤ limits.devices }
-    requires few_nets { length chain.now.nets ≤ limits.nets }
-    ensures number { result ≡ spec.first_of_extras chain.now.chips chain.now.nets }
-    ensures few { result ≤ 200000 }
-{
-    first_of_notes(chain) + VARIABLES_OF_NOTES
-}
-
-/// Writes the variables of what is drawn besides.
-pub(crate) fn write_extra_variables<W: Sink>(
-    extras: Extras,
-    chain: &Chain,
-    out: &mut Counted<W>,
-) -> Result<(), Broken>
-    requires none_lost { out.old.failures ≡ 0 }
-    requires few { length chain.now.chips ≤ limits.devices }
-    requires few_nets { length chain.now.nets ≤ limits.nets }
-    ensures { WritesAll W.contents out.old out.new (all_extra_variables extras chain.now.chips chain.now.nets) result }
-{
-    if !extras.any() {
-        return put_all(out, b"");
-    }
-    write_scopes(extras, first_of_extras(chain), chain, out)
-}
-
-/// Writes these of all devices, from a number on.
-fn write_scopes<W: Sink>(
-    extras: Extras,
-    first: usize,
-    chain: &Chain,
-    out: &mut Counted<W>,
-) -> Result<(), Broken>
-    requires none_lost { out.old.failures ≡ 0 }
-    requires few { length chain.now.chips ≤ limits.devices }
-    requires early { first ≤ 200000 }
-    ensures { WritesAll W.contents out.old out.new
-        (by_numbers (extra_variables extras) extras_of_device first chain.now.chips) result }
-{
-    for i in 0..chain.devices() {
-        let number = first + EXTRAS_OF_DEVICE * i;
-        write_extra_scope(extras, number, chain.chip(i), out)?;
-    }
-    Ok(())
-}
-
-/// Writes these of a device.
-fn write_extra_scope<W: Sink>(
-    extras: Extras,
-    number: usize,
-    chip: &WiredChip,
-    out: &mut Counted<W>,
-) -> Result<(), Broken>
-    requires none_lost { out.old.failures ≡ 0 }
-    requires few { number ≤ 1000000 }
-    ensures { WritesAll W.contents out.old out.new (extra_variables extras number (chip_state chip.now)) result }
-{
-    write_extras_named(extras, number, chip.name(), out)
-}
-
-/// Writes these of a device of this name.
-fn write_extras_named<W: Sink>(
-    extras: Extras,
-    number: usize,
-    name: &str,
-    out: &mut Counted<W>,
-) -> Result<(), Broken>
-    requires none_lost { out.old.failures ≡ 0 }
-    requires few { number ≤ 1000000 }
-    ensures { WritesAll W.contents out.old out.new (extras_named extras number name.now) result }
-{
-    write_scope(name, out)?;
-    write_name_variable(extras.names, number, name, out)?;
-    write_tdo_variable(extras.tdos, number + 1, name, out)?;
-    put_all(out, b"$upscope $end\n")
-}
-
-/// Writes the variable of the name of an instruction, where it is drawn.
-fn write_name_variable<W: Sink>(
-    names: bool,
-    number: usize,
-    device: &str,
-    out: &mut Counted<W>,
-) -> Result<(), Broken>
-    requires { out.old.failures ≡ 0 }
-    ensures { WritesAll W.contents out.old out.new (heading.name_variable names number device.now) result }
-{
-    if !names {
-        return put_all(out, b"");
-    }
-    put_all(out, b"$var string 1 ")?;
-    write_named(number, device, b"_instruction_name", out)
-}
-
-/// Writes the variable of TDO, where it is drawn.
-fn write_tdo_variable<W: Sink>(
-    tdos: bool,
-    number: usize,
-    device: &str,
-    out: &mut Counted<W>,
-) -> Result<(), Broken>
-    requires { out.old.failures ≡ 0 }
-    ensures { WritesAll W.contents out.old out.new (heading.tdo_variable tdos number device.now) result }
-{
-    if !tdos {
-        return put_all(out, b"");
-    }
-    put_all(out, b"$var wire 1 ")?;
-    write_named(number, device, b"_tdo", out)
 }
 
 /// Writes what is shown besides at the start.
@@ -169,7 +54,22 @@ pub(crate) fn write_extra_values<W: Sink>(
     requires few_nets { length chain.now.nets ≤ limits.nets }
     ensures { WritesAll W.contents out.old out.new (all_extra_lines extras chain.now.chips chain.now.nets) result }
 {
-    if !extras.any() {
+    write_values_of_devices(extras, chain, out)?;
+    write_drive_values(extras.drives, chain, out)
+}
+
+/// Writes what is shown of devices besides at the start.
+fn write_values_of_devices<W: Sink>(
+    extras: Extras,
+    chain: &Chain,
+    out: &mut Counted<W>,
+) -> Result<(), Broken>
+    requires none_lost { out.old.failures ≡ 0 }
+    requires few { length chain.now.chips ≤ limits.devices }
+    requires few_nets { length chain.now.nets ≤ limits.nets }
+    ensures { WritesAll W.contents out.old out.new (device_extra_lines extras chain.now.chips chain.now.nets) result }
+{
+    if !extras.of_devices() {
         return put_all(out, b"");
     }
     write_values(extras, first_of_extras(chain), chain, out)
@@ -259,7 +159,8 @@ fn byte_of_tdo(chip: &WiredChip) -> u8
     wire(UNDRIVEN, chip.tdo())
 }
 
-/// Writes what changed of what is drawn besides. Where `quiet` is set, no instruction did, and none is looked at.
+/// Writes what changed of what is drawn besides. Where `quiet` is set, no instruction did and nothing that a pin drives,
+/// and none is looked at.
 ///
 /// `Broken` comes exactly where the writer's first failure came in this call.
 pub fn write_extra_changes<W: Sink>(
@@ -273,11 +174,32 @@ pub fn write_extra_changes<W: Sink>(
     requires few { length behind.now.chips ≤ limits.devices }
     requires few_nets { length behind.now.nets ≤ limits.nets }
     requires alike { length ahead.now.chips ≡ length behind.now.chips }
-    requires quiet { quiet ≡ true → KeepsInstructions behind.now.chips ahead.now.chips }
+    requires alike_nets { ahead.now.nets ≡ behind.now.nets }
+    requires quiet { quiet ≡ true → IsQuiet behind.now.nets behind.now.chips ahead.now.chips }
     ensures { WritesAll W.contents out.old out.new
         (all_extra_changes extras behind.now.nets behind.now.chips ahead.now.chips) result }
 {
-    if !extras.any() {
+    write_changes_of_devices(extras, behind, ahead, quiet, out)?;
+    write_drive_changes(extras.drives, behind, ahead, quiet, out)
+}
+
+/// Writes what changed of what is drawn of devices besides. Where `quiet` is set, no instruction is looked at.
+fn write_changes_of_devices<W: Sink>(
+    extras: Extras,
+    behind: &Chain,
+    ahead: &Chain,
+    quiet: bool,
+    out: &mut Counted<W>,
+) -> Result<(), Broken>
+    requires none_lost { out.old.failures ≡ 0 }
+    requires few { length behind.now.chips ≤ limits.devices }
+    requires few_nets { length behind.now.nets ≤ limits.nets }
+    requires alike { length ahead.now.chips ≡ length behind.now.chips }
+    requires quiet { quiet ≡ true → KeepsInstructions behind.now.chips ahead.now.chips }
+    ensures { WritesAll W.contents out.old out.new
+        (device_extra_changes extras behind.now.nets behind.now.chips ahead.now.chips) result }
+{
+    if !extras.of_devices() {
         return put_all(out, b"");
     }
     write_each_change(extras, first_of_extras(behind), behind, ahead, quiet, out)

@@ -2,7 +2,7 @@ use Rattle.std.proofs.Common.{◌≡◌, ◌++◌, append_assoc, length, refl, s
 use Rattle.pin_nets.specs.Wired.{Net}
 use Rattle.board_model.specs.Chain.{ChipState}
 use Rattle.byte_streams.proofs.Fronts.{WritesAll-is, WritesAll-stopped, WritesAll-then}
-use Rattle.wave_files.specs.Changes.{KeepsInstructions, board_changes, line_changes, stamp, stamped_changes}
+use Rattle.wave_files.specs.Changes.{board_changes, line_changes, stamp, stamped_changes}
 use Rattle.wave_files.specs.Changes.{IsQuiet}
 use Rattle.wave_files.specs.Extras.{all_extra_changes}
 use Rattle.play_drawing.specs.Drawing.{shown}
@@ -44,10 +44,14 @@ write_extra_changes-requires-clause-alike g c =
     ap (λ (cs : List ChipState). length cs) c.chain-is.ensures.chips ∙ c.requires.alike
     ∙ sym (ap (λ (cs : List ChipState). length cs) c.chain-was.ensures.chips)
 
+pub write_extra_changes-requires-clause-alike_nets : goal.write_extra_changes-requires-clause-alike_nets
+write_extra_changes-requires-clause-alike_nets g c = c.chain-is.ensures.nets ∙ c.requires.alike_nets ∙ sym c.chain-was.ensures.nets
+
 pub write_extra_changes-requires-clause-quiet : goal.write_extra_changes-requires-clause-quiet
 write_extra_changes-requires-clause-quiet g c = λ quiet.
-    subst (λ (cs : List ChipState). KeepsInstructions cs c.chain-is.result.now.chips) (sym c.chain-was.ensures.chips)
-    (subst (λ (cs : List ChipState). KeepsInstructions c.args.behind.now.chips cs) (sym c.chain-is.ensures.chips) (c.requires.quiet quiet).no_instruction)
+    subst (λ (ns : List Net). IsQuiet ns c.chain-was.result.now.chips c.chain-is.result.now.chips) (sym c.chain-was.ensures.nets)
+    (subst (λ (cs : List ChipState). IsQuiet c.args.behind.now.nets cs c.chain-is.result.now.chips) (sym c.chain-was.ensures.chips)
+    (subst (λ (cs : List ChipState). IsQuiet c.args.behind.now.nets c.args.behind.now.chips cs) (sym c.chain-is.ensures.chips) (c.requires.quiet quiet)))
 
 pub returns-then-is_still : goal.returns-then-is_still
 returns-then-is_still g c =

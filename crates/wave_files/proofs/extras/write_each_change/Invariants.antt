@@ -1,7 +1,7 @@
 use Rattle.std.proofs.Common.{◌≡◌, take, zip}
 use Rattle.std.specs.Io.KnownBytes.{Appends}
-use Rattle.wave_files.specs.Extras.{extra_change, extras_of_device}
-use Rattle.wave_files.specs.Values.{by_numbers}
+use Rattle.wave_files.specs.Extras.{extra_change}
+use Rattle.wave_files.specs.Values.{by_numbers, extras_of_device}
 use Rattle.wave_files.proofs.extras.write_each_change.Given as goal
 
 -- the changes of the devices before the place are written

@@ -1,25 +1,10 @@
-use Rattle.std.proofs.Common.{Bool, ℕ, [], sym, ap, ◌∙◌}
-use Rattle.std.specs.Prelude.{if◌then◌else◌}
-use Rattle.byte_streams.proofs.Fronts.{WritesAll-is}
-use Rattle.wave_files.specs.Extras.{extra_lines, extras_of_device, first_of_extras}
-use Rattle.wave_files.specs.Values.{by_numbers}
+use Rattle.std.proofs.Common.{refl}
+use Rattle.byte_streams.proofs.Fronts.{WritesAll-stopped, WritesAll-then}
 use Rattle.wave_files.proofs.extras.write_extra_values.Goals as goal
 
-pub returns-then-not-any : goal.returns-then-not-any
-returns-then-not-any g c =
-    let x = c.args.extras in
-    let cs = c.args.chain.now.chips in
-    let nets = c.args.chain.now.nets in
-    WritesAll-is
-    (sym (ap (λ (b : Bool). if b then by_numbers (extra_lines x) extras_of_device (first_of_extras cs nets) cs else []) (sym c.any.ensures ∙ c.if-not-any.true)))
-    c.put_all.ensures.writes
+pub returns-in_err-write_values_of_devices : goal.returns-in_err-write_values_of_devices
+returns-in_err-write_values_of_devices g c =
+    WritesAll-stopped _ c.in_err-write_values_of_devices.ensures refl c.from_residual.ensures.0
 
 pub returns : goal.returns
-returns g c =
-    let x = c.args.extras in
-    let cs = c.args.chain.now.chips in
-    let nets = c.args.chain.now.nets in
-    WritesAll-is
-    (ap (λ (n : ℕ). by_numbers (extra_lines x) extras_of_device n cs) c.first_of_extras.ensures.number
-    ∙ sym (ap (λ (b : Bool). if b then by_numbers (extra_lines x) extras_of_device (first_of_extras cs nets) cs else []) (sym c.any.ensures ∙ c.if-not-any.false)))
-    c.write_values.ensures
+returns g c = WritesAll-then c.in_ok-write_values_of_devices.ensures refl c.write_drive_values.ensures

@@ -1,7 +1,7 @@
 use Rattle.std.proofs.Common.{◌≡◌, take}
 use Rattle.std.specs.Io.KnownBytes.{Appends}
-use Rattle.wave_files.specs.Extras.{extra_lines, extras_of_device}
-use Rattle.wave_files.specs.Values.{by_numbers}
+use Rattle.wave_files.specs.Extras.{extra_lines}
+use Rattle.wave_files.specs.Values.{by_numbers, extras_of_device}
 use Rattle.wave_files.proofs.extras.write_values.Given as goal
 
 -- the values of the devices before the place are written

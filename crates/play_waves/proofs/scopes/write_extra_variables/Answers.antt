@@ -1,0 +1,10 @@
+use Rattle.std.proofs.Common.{refl}
+use Rattle.byte_streams.proofs.Fronts.{WritesAll-stopped, WritesAll-then}
+use Rattle.play_waves.proofs.scopes.write_extra_variables.Goals as goal
+
+pub returns-in_err-write_variables_of_devices : goal.returns-in_err-write_variables_of_devices
+returns-in_err-write_variables_of_devices g c =
+    WritesAll-stopped _ c.in_err-write_variables_of_devices.ensures refl c.from_residual.ensures.0
+
+pub returns : goal.returns
+returns g c = WritesAll-then c.in_ok-write_variables_of_devices.ensures refl c.write_drive_variables.ensures

@@ -1,7 +1,0 @@
-use Rattle.std.proofs.Common.{arith}
-use Rattle.std.proofs.lemmas.Grind.{common_steps}
-use Rattle.byte_streams.proofs.Fronts.{WritesAll-is}
-use Rattle.wave_files.proofs.heading.write_bits_kind.Goals as goal
-
-pub returns : goal.returns
-returns g c = WritesAll-is (grind (arith, common_steps)) c.put_pieces.ensures.writes

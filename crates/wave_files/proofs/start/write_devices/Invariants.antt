@@ -1,0 +1,12 @@
+use Rattle.std.proofs.Common.{◌≡◌, take}
+use Rattle.std.specs.Io.KnownBytes.{Appends}
+use Rattle.wave_files.specs.Values.{by_numbers, device_lines, first_of_devices, variables_of_device}
+use Rattle.wave_files.proofs.start.write_devices.Given as goal
+
+-- what the devices before the place show is written
+abbrev pub invariant-loop-i : goal.invariant-loop-i
+invariant-loop-i g l = record {
+  none_lost : l.out.failures ≡ 0;
+  sent : Appends (g.W.Write.contents l.initial.out.inner) (g.W.Write.contents l.out.inner)
+      (by_numbers device_lines variables_of_device first_of_devices (take l.i l.chain.chips));
+}

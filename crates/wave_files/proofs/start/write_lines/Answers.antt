@@ -1,0 +1,33 @@
+use Rattle.std.proofs.Common.{refl}
+use Rattle.byte_streams.proofs.Fronts.{WritesAll-stopped, WritesAll-then}
+use Rattle.wave_files.proofs.start.write_lines.Goals as goal
+
+pub returns-in_err-write_byte : goal.returns-in_err-write_byte
+returns-in_err-write_byte g c =
+    WritesAll-stopped _ c.in_err-write_byte.ensures refl c.from_residual.ensures.0
+
+pub returns-in_err-write_byte-2 : goal.returns-in_err-write_byte-2
+returns-in_err-write_byte-2 g c =
+    WritesAll-then c.in_ok-write_byte.ensures refl
+    (WritesAll-stopped _ c.in_err-write_byte-2.ensures refl c.from_residual-in_err-write_byte-2.ensures.0)
+
+pub returns-in_err-write_byte-3 : goal.returns-in_err-write_byte-3
+returns-in_err-write_byte-3 g c =
+    WritesAll-then c.in_ok-write_byte.ensures refl
+    (WritesAll-then c.in_ok-write_byte-2.ensures refl
+    (WritesAll-stopped _ c.in_err-write_byte-3.ensures refl c.from_residual-in_err-write_byte-3.ensures.0))
+
+pub returns-in_err-write_byte-4 : goal.returns-in_err-write_byte-4
+returns-in_err-write_byte-4 g c =
+    WritesAll-then c.in_ok-write_byte.ensures refl
+    (WritesAll-then c.in_ok-write_byte-2.ensures refl
+    (WritesAll-then c.in_ok-write_byte-3.ensures refl
+    (WritesAll-stopped _ c.in_err-write_byte-4.ensures refl c.from_residual-in_err-write_byte-4.ensures.0)))
+
+pub returns : goal.returns
+returns g c =
+    WritesAll-then c.in_ok-write_byte.ensures refl
+    (WritesAll-then c.in_ok-write_byte-2.ensures refl
+    (WritesAll-then c.in_ok-write_byte-3.ensures refl
+    (WritesAll-then c.in_ok-write_byte-4.ensures refl
+    (c.write_byte-5.ensures))))
