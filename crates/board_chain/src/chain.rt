@@ -1,6 +1,6 @@
 //! The chain of devices with its nets.
 
-ghost use Rattle.std.specs.Prelude.{◌≡◌, ◌<◌, true, false, length, map, option_map, slice_get, Some};
+ghost use Rattle.std.specs.Prelude.{◌≡◌, ◌<◌, ◌^◌, true, false, length, map, option_map, slice_get, Some};
 ghost use Rattle.std.specs.Prelude.{option_and_then, if◌then◌else◌};
 ghost use Rattle.board_plan.specs.CellNets.{cell_net};
 ghost use Rattle.board_plan.specs.Planned.{all_pins};
@@ -153,7 +153,8 @@ impl Chain {
 
     /// How many pins all nets with a name have.
     pub fn pin_count(&self) -> usize
-        ensures { result ≡ length (all_pins self.now.nets) }
+        ensures count { result ≡ length (all_pins self.now.nets) }
+        ensures few { result < 2 ^ 63 }
     {
         self.settled.wiring().pin_count()
     }

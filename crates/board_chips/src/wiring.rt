@@ -1,6 +1,6 @@
 //! The nets of a board, with what was last put to them.
 
-ghost use Rattle.std.specs.Prelude.{◌≡◌, ◌<◌, ◌∷◌, map, length, slice_get, slice_set, option_map, replicate, Some};
+ghost use Rattle.std.specs.Prelude.{◌≡◌, ◌<◌, ◌^◌, ◌∷◌, map, length, slice_get, slice_set, option_map, replicate, Some};
 ghost use Rattle.std.specs.Prelude.{IfOk, ◌≢◌, true, false};
 ghost use Rattle.pin_nets.specs.declared.Drive.{Drive as TheDrive};
 ghost use Rattle.pin_nets.specs.declared.Drive.TheVariants as driving;
@@ -117,6 +117,7 @@ impl Wiring {
     pub fn pin_count(&self) -> usize
         ensures count { result ≡ length (all_pins self.now.nets) }
         ensures drives { result ≡ length self.now.drives }
+        ensures few { result < 2 ^ 63 }
     {
         self.pins.len()
     }

@@ -1,7 +1,7 @@
 -- The first opcode that takes another, by those that are the same and those with an X.
 use Rattle.std.proofs.Common.{◌≡◌, ℕ, suc, ◌+◌, ◌<◌, ◌≤◌, Bool, Bor, true, false, ◌&&◌, ◌||◌, cond, List, [], ◌∷◌, ◌++◌, codes, length, get_or, take, map, slice_get, Option, Some, None, is_none, refl, sym, ap, ◌∙◌, arith, append_assoc}
-use Rattle.std.specs.Prelude.{flat_map, option_and_then, option_map, unwrap_or, if◌then◌else◌}
-use Rattle.std.specs.List.{find, list_all, list_any, position, position_from}
+use Rattle.std.specs.Prelude.{flat_map, option_and_then, unwrap_or, if◌then◌else◌}
+use Rattle.std.specs.List.{list_all, list_any, position, position_from}
 use Rattle.std.proofs.lemmas.Grind.{flat_map-append}
 use Rattle.std.proofs.lemmas.Iterator.Adapters.{position_from-zero}
 use Rattle.std.specs.Option.{option_cmp}
@@ -12,9 +12,10 @@ use Rattle.std.proofs.lemmas.List.{append-nil, length-map, map-append, take_more
 use Rattle.bsdl_device.specs.Device.{Name, Opcode, Pattern}
 use Rattle.board_tables.specs.WordView.{texts_of}
 use Rattle.board_description.specs.Covered.{is_one, opcode_names, opcode_patterns, takes, taking}
-use Rattle.board_description.specs.Opcodes.{Holds, first_of, with_x, x_pair, x_taking}
+use Rattle.board_description.specs.Blocks.{joined, x_taking}
+use Rattle.board_description.specs.Opcodes.{Holds, first_of, with_x}
 use Rattle.board_description.specs.declared.opcodes.Opcodes.{Opcodes}
-use Rattle.board_description.specs.declared.opcodes.WithX.{WithX}
+use Rattle.board_description.proofs.BlockLaws.{from_first}
 
 -- ---- an opcode more
 
@@ -70,14 +71,6 @@ ties same p q is =
     (λ none h. (is q).1 (exact_takes q p none h))
 
 -- ---- the first that does
-
-from_first : (x : ℕ × Pattern) (xs : List (ℕ × Pattern)) (p : Pattern) (b : Bool) → takes x.1 p ≡ b
-    → x_taking (x ∷ xs) p ≡ (if b then Some x.0 else x_taking xs p)
-from_first x xs p b e = ap (λ (t : Bool). option_map (λ (o : ℕ × Pattern). o.0) (cond t (Some x) (find (λ (o : ℕ × Pattern). takes o.1 p) xs))) e ∙ by b
-  where
-    by : (b : Bool) → option_map (λ (o : ℕ × Pattern). o.0) (cond b (Some x) (find (λ (o : ℕ × Pattern). takes o.1 p) xs)) ≡ (if b then Some x.0 else x_taking xs p)
-    by true = refl
-    by false = refl
 
 -- with the first opcode, where it has an X, or without it
 x_step : (n : ℕ) (q : Pattern) (qs : List Pattern) (p : Pattern) (x t : Bool) → list_any is_none q ≡ x → takes q p ≡ t
@@ -149,7 +142,7 @@ x_alone false n p e = rw e refl
 pub holds_next : (names : List Name) (patterns : List Pattern) (old new : Opcodes) (n : Bor (List ℕ)) (p : Bor Pattern) (b : Bool) (place : ℕ)
     → Holds names patterns old → place ≡ length old.places → b ≡ list_any is_none p.now
     → new.names.items ≡ old.names.items ++ n ∷ [] → new.places ≡ old.places ++ p ∷ []
-    → map x_pair new.with_x.items ≡ map x_pair old.with_x.items ++ (if b then (place, p.now) ∷ [] else [])
+    → joined new.with_x.items ≡ joined old.with_x.items ++ (if b then (place, p.now) ∷ [] else [])
     → Holds (names ++ n.now ∷ []) (patterns ++ p.now ∷ []) new
 holds_next names patterns old new n p b place h place_is b_is names_are places_are x_are =
     let long : place ≡ length patterns =
@@ -166,13 +159,13 @@ holds_next names patterns old new n p b place h place_is b_is names_are places_a
 no_more : (xs : List (ℕ × Pattern)) → xs ≡ xs ++ []
 no_more xs = sym (append-nil xs)
 
-pub x_stays : (old : Opcodes) (b : Bool) (place : ℕ) (p : Pattern) → b ≡ false → map x_pair old.with_x.items ≡ map x_pair old.with_x.items ++ (if b then (place, p) ∷ [] else [])
+pub x_stays : (old : Opcodes) (b : Bool) (place : ℕ) (p : Pattern) → b ≡ false → joined old.with_x.items ≡ joined old.with_x.items ++ (if b then (place, p) ∷ [] else [])
 x_stays old true place p e = absurd cc
 x_stays old false place p e = no_more _
 
-pub x_pushed : (xs now : List WithX) (x : WithX) (b : Bool) → b ≡ true → now ≡ xs ++ x ∷ [] → map x_pair now ≡ map x_pair xs ++ (if b then (x.place, x.pattern.now) ∷ [] else [])
-x_pushed xs now x true e is = ap (map x_pair) is ∙ map-append x_pair xs (x ∷ [])
-x_pushed xs now x false e is = absurd cc
+pub x_added : (old now : List (ℕ × Pattern)) (place : ℕ) (p : Pattern) (b : Bool) → b ≡ true → now ≡ old ++ (place, p) ∷ [] → now ≡ old ++ (if b then (place, p) ∷ [] else [])
+x_added old now place p true e is = is
+x_added old now place p false e is = absurd cc
 
 -- ---- the names
 
@@ -255,9 +248,9 @@ is_same : (p : Pattern) → IsSame (λ q. is_eq (order p q)) p
 is_same p q = (order_same p q, λ e. ap (λ r. is_eq (order p r)) (sym e) ∙ order_itself p)
 
 pub first_kept : (names : List Name) (patterns : List Pattern) (kept : Opcodes) (p : Pattern) → Holds names patterns kept
-    → first_of (position (λ (y : Bor Pattern). is_eq (order p y.now)) kept.places) (x_taking (map x_pair kept.with_x.items) p) ≡ position (λ other. takes other p) patterns
+    → first_of (position (λ (y : Bor Pattern). is_eq (order p y.now)) kept.places) (x_taking (joined kept.with_x.items) p) ≡ position (λ other. takes other p) patterns
 first_kept names patterns kept p h =
-    ap (λ o. first_of o (x_taking (map x_pair kept.with_x.items) p))
+    ap (λ o. first_of o (x_taking (joined kept.with_x.items) p))
     (position_from-zero (λ (y : Bor Pattern). is_eq (order p y.now)) kept.places ∙ moved_position (λ q. is_eq (order p q)) 0 kept.places ∙ ap (position_from (λ q. is_eq (order p q)) 0) h.patterns_are)
     ∙ ap (λ xs. first_of (position_from (λ q. is_eq (order p q)) 0 patterns) (x_taking xs p)) h.x_are
     ∙ sym (first_from (λ q. is_eq (order p q)) p (is_same p) 0 patterns) ∙ sym (position_from-zero (λ other. takes other p) patterns)

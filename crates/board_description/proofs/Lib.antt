@@ -1,3 +1,4 @@
+pub mod BlockLaws
 pub mod CoverLaws
 pub mod RowsCompute
 pub mod TakingLaws

@@ -1,3 +1,4 @@
+pub mod Blocks
 pub mod Covered
 pub mod Described
 pub mod Kept

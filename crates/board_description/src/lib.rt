@@ -5,6 +5,7 @@
 ghost use Rattle.board_description.specs.Covered.{TakesAsTheBoardDoes};
 ghost use Rattle.board_description.specs.Rows.{DescribedRows};
 
+mod blocks;
 mod cells;
 mod instructions;
 mod nets;

@@ -7,29 +7,23 @@ ghost use Rattle.board_tables.specs.WordView.{texts_of};
 ghost use Rattle.board_description.specs.Covered as spec;
 ghost use Rattle.board_description.specs.Covered.{opcode_names, opcode_patterns};
 ghost use Rattle.board_description.specs.Opcodes as kept;
-ghost use Rattle.board_description.specs.Opcodes.{Holds, x_pair, x_taking};
+ghost use Rattle.board_description.specs.Opcodes.{Holds};
 
+use crate::blocks::{Block, add_to, first_in};
 use board_tables::Places;
 use bsdl_device::{Opcode, Pattern};
 use std::alloc::{AllocError, Global};
 
 /// The opcodes of a device in the order of its description. One without an X is found by its bits; those with an X are
-/// looked through.
+/// looked through, 64 at a time.
 #[derive(Drop)]
 pub(crate) struct Opcodes<'d> {
     /// Of each the instruction.
     names: Vec<&'d str>,
     /// Their bits.
     places: Places<&'d [Option<bool>]>,
-    /// Those with an X.
-    with_x: Vec<WithX<'d>>,
-}
-
-/// An opcode with an X, and its place.
-#[derive(Clone, Copy)]
-struct WithX<'d> {
-    place: usize,
-    pattern: &'d [Option<bool>],
+    /// Those with an X, each with its place.
+    with_x: Vec<Block>,
 }
 
 impl<'d> Opcodes<'d> {
@@ -43,25 +37,30 @@ impl<'d> Opcodes<'d> {
             with_x: Vec::new(alloc),
         };
         for row in rows {
-            opcodes.add_row(row)?;
+            opcodes.add_row(alloc, row)?;
         }
         Ok(opcodes)
     }
 
     /// Those of a row more.
-    fn add_row(&mut self, row: &'d Opcode) -> Result<(), AllocError>
+    fn add_row(&mut self, alloc: Global, row: &'d Opcode) -> Result<(), AllocError>
         ensures { (names : List Name) (patterns : List described.Pattern) → Holds names patterns self.old
             → OnOk result (Holds (names ++ map (λ p. row.now.name) row.now.patterns) (patterns ++ row.now.patterns)
             self.new) }
     {
         for pattern in row.patterns() {
-            self.add(row.name(), pattern.bits())?;
+            self.add(alloc, row.name(), pattern.bits())?;
         }
         Ok(())
     }
 
     /// One more.
-    fn add(&mut self, name: &'d str, pattern: &'d [Option<bool>]) -> Result<(), AllocError>
+    fn add(
+        &mut self,
+        alloc: Global,
+        name: &'d str,
+        pattern: &'d [Option<bool>],
+    ) -> Result<(), AllocError>
         ensures { (names : List Name) (patterns : List described.Pattern) → Holds names patterns self.old
             → OnOk result (Holds (names ++ name.now ∷ []) (patterns ++ pattern.now ∷ []) self.new) }
     {
@@ -69,7 +68,7 @@ impl<'d> Opcodes<'d> {
         self.names.push(name)?;
         self.places.push(pattern)?;
         if has_x(pattern) {
-            self.with_x.push(WithX { place, pattern })?;
+            add_to(alloc, &mut self.with_x, place, pattern)?;
         }
         Ok(())
     }
@@ -94,7 +93,7 @@ impl<'d> Opcodes<'d> {
             → result ≡ position (λ other. spec.takes other pattern.now) patterns }
     {
         let same = self.places.place(pattern);
-        first_of(same, first_with_x(&self.with_x, pattern))
+        first_of(same, first_in(&self.with_x, pattern))
     }
 }
 
@@ -116,48 +115,6 @@ fn first_of(place: Option<usize>, other: Option<usize>) -> Option<usize>
         (Some(place), Some(other)) => Some(place.min(other)),
         (Some(place), None) => Some(place),
         (None, other) => other,
-    }
-}
-
-/// The place of the first of these opcodes that takes one.
-fn first_with_x(opcodes: &[WithX<'_>], pattern: &[Option<bool>]) -> Option<usize>
-    ensures { result ≡ x_taking (map x_pair opcodes.now) pattern.now }
-{
-    for opcode in opcodes {
-        if takes(opcode.pattern, pattern) {
-            return Some(opcode.place);
-        }
-    }
-    None
-}
-
-/// Whether every code of the second opcode is one of the first.
-fn takes(pattern: &[Option<bool>], other: &[Option<bool>]) -> bool
-    ensures { result ≡ spec.takes pattern.now other.now }
-{
-    let mut rest = pattern;
-    let mut others = other;
-    while let Some((bit, behind)) = rest.split_first() {
-        let Some((other_bit, other_behind)) = others.split_first() else {
-            return false;
-        };
-        if !takes_bit(*bit, *other_bit) {
-            return false;
-        }
-        rest = behind;
-        others = other_behind;
-    }
-    others.is_empty()
-}
-
-/// Whether a bit of an opcode is the same as another's, or X.
-fn takes_bit(bit: Option<bool>, other: Option<bool>) -> bool
-    ensures { result ≡ spec.takes_bit bit other }
-{
-    match (bit, other) {
-        (None, _) => true,
-        (Some(_), None) => false,
-        (Some(bit), Some(other)) => bit == other,
     }
 }
 

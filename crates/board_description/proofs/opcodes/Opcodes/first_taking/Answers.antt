@@ -1,6 +1,7 @@
-use Rattle.std.proofs.Common.{◌∙◌, ap, map, List, Option, ℕ}
-use Rattle.board_description.specs.Opcodes.{first_of, x_pair, x_taking}
-use Rattle.board_description.specs.declared.opcodes.WithX.{WithX}
+use Rattle.std.proofs.Common.{◌∙◌, ap, List, Option, ℕ}
+use Rattle.bsdl_device.specs.Device.{Pattern}
+use Rattle.board_description.specs.Blocks.{joined, x_taking}
+use Rattle.board_description.specs.Opcodes.{first_of}
 use Rattle.board_description.proofs.CoverLaws.{first_kept}
 use Rattle.board_description.proofs.opcodes.Opcodes.first_taking.Goals as goal
 
@@ -8,6 +9,6 @@ pub returns : goal.returns
 returns c names patterns h =
     let p = c.args.pattern.now in
     c.first_of.ensures
-    ∙ ap (λ (o : Option ℕ). first_of o c.first_with_x.result) c.place-same.ensures
-    ∙ ap (first_of _) (c.first_with_x.ensures ∙ ap (λ (xs : List WithX). x_taking (map x_pair xs) p) c.deref.ensures.value)
+    ∙ ap (λ (o : Option ℕ). first_of o c.first_in.result) c.place-same.ensures
+    ∙ ap (first_of _) (c.first_in.ensures ∙ ap (λ (blocks : List (List (ℕ × Pattern))). x_taking (joined blocks) p) c.deref.ensures.value)
     ∙ first_kept names patterns c.args.self.now p h
