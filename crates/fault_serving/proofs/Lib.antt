@@ -1,7 +1,7 @@
 pub mod Firsts
-pub mod Listing
+pub mod OtherBits
 pub mod OnePlay
 pub mod Plain
 pub mod Putting
 pub mod Quiet
-pub mod Sifting
+pub mod SiftingLaws

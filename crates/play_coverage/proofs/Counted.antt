@@ -27,7 +27,7 @@ use Rattle.fault_serving.specs.declared.sifting.Outcome.{Outcome}
 use Rattle.fault_serving.specs.declared.sifting.Outcome.TheVariants.{Caught, Missed, Invisible}
 use Rattle.fault_serving.specs.Sifting.{AreCounted, AreSifted, ComesTo, WayComesTo, both_come, count_of, four_come, no_counts, one_more}
 use Rattle.fault_serving.proofs.OnePlay.{told_other}
-use Rattle.fault_serving.proofs.Sifting.{all_kept}
+use Rattle.fault_serving.proofs.SiftingLaws.{all_kept}
 use Rattle.play_coverage.specs.declared.outcomes.FaultKind.{FaultKind}
 use Rattle.play_coverage.specs.declared.outcomes.FaultKind.TheVariants as kind
 use Rattle.play_coverage.specs.declared.tallies.Tally.{Tally}

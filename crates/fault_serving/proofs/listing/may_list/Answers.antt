@@ -10,7 +10,7 @@ use Rattle.fault_events.specs.Captures.{Noted}
 use Rattle.fault_serving.specs.Firsts.{HasOther, firsts_noted}
 use Rattle.fault_serving.specs.declared.serving.Serving.{Serving}
 use Rattle.fault_serving.specs.Serving.{IsTelling, ListsOther, MayServe}
-use Rattle.fault_serving.proofs.Listing.{other_fails}
+use Rattle.fault_serving.proofs.OtherBits.{other_fails}
 use Rattle.fault_serving.proofs.listing.may_list.Goals as goal
 
 pub bridge_may_list-requires : goal.bridge_may_list-requires

@@ -1,7 +1,7 @@
 use Rattle.board_faults.specs.declared.kinds.Winner.{Winner}
 use Rattle.fault_serving.specs.declared.planing.Failing.{Failing}
 use Rattle.fault_serving.specs.Planes.{IsToldAs, failing_at}
-use Rattle.fault_serving.proofs.Sifting.{each_winner}
+use Rattle.fault_serving.proofs.SiftingLaws.{each_winner}
 use Rattle.fault_serving.proofs.planing.failing_ways.Goals as goal
 
 pub returns : goal.returns

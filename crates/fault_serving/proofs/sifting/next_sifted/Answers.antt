@@ -11,7 +11,7 @@ use Rattle.board_faults.specs.Listing.{left_of}
 use Rattle.fault_serving.specs.declared.sifting.Sieve.{Sieve}
 use Rattle.fault_serving.specs.Serving.{AreTold}
 use Rattle.fault_serving.proofs.OnePlay.{all_ways}
-use Rattle.fault_serving.proofs.Sifting.{sifted_told}
+use Rattle.fault_serving.proofs.SiftingLaws.{sifted_told}
 use Rattle.fault_serving.proofs.sifting.next_sifted.Goals as goal
 
 pub told_endings-requires-clause-ways : goal.told_endings-requires-clause-ways

@@ -3,7 +3,7 @@ use Rattle.board_faults.specs.declared.kinds.Fault.{Fault}
 use Rattle.board_faults.specs.Listing.{left_of}
 use Rattle.fault_serving.specs.declared.sifting.Counts.{Counts}
 use Rattle.fault_serving.specs.Sifting.{AreCounted, AreSifted, ComesBy}
-use Rattle.fault_serving.proofs.Sifting.{more_are, none_are, one_counted, one_kept}
+use Rattle.fault_serving.proofs.SiftingLaws.{more_are, none_are, one_counted, one_kept}
 use Rattle.fault_serving.proofs.sifting.sift.Goals as goal
 
 pub faults-init : goal.faults-init

@@ -13,7 +13,7 @@ use Rattle.board_faults.proofs.JudgingLaws.{every_fault}
 use Rattle.fault_serving.specs.declared.sifting.Counting.{Counting}
 use Rattle.fault_serving.specs.Sifting.{AreCounted, ComesTo}
 use Rattle.fault_serving.proofs.OnePlay.{judges_join, none_there, some_less, some_there}
-use Rattle.fault_serving.proofs.Sifting.{some_kept}
+use Rattle.fault_serving.proofs.SiftingLaws.{some_kept}
 use Rattle.play_coverage.proofs.Counted.{told_with}
 use Rattle.play_coverage.proofs.judging.tell_faults.Goals as goal
 

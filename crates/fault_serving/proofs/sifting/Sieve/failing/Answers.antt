@@ -5,7 +5,7 @@ use Rattle.board_faults.specs.declared.kinds.Winner.TheVariants.{Zeros}
 use Rattle.fault_events.specs.Pulls.{pulls_of}
 use Rattle.fault_serving.specs.Planes.{failing_at}
 use Rattle.fault_serving.specs.Sifting.{nets_of}
-use Rattle.fault_serving.proofs.Sifting.{told_by}
+use Rattle.fault_serving.proofs.SiftingLaws.{told_by}
 use Rattle.fault_serving.proofs.sifting.Sieve.failing.Goals as goal
 
 if-then : {A : Type 0} (o : Option A) (P Q : A → Type 0) → ((x : A) → P x → Q x) → IfSome o P → IfSome o Q

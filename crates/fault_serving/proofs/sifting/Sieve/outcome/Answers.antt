@@ -1,6 +1,6 @@
 use Rattle.std.proofs.Common.{sym, subst}
 use Rattle.fault_serving.specs.Sifting.{ComesBy}
-use Rattle.fault_serving.proofs.Sifting.{bridge_comes}
+use Rattle.fault_serving.proofs.SiftingLaws.{bridge_comes}
 use Rattle.fault_serving.proofs.sifting.Sieve.outcome.Goals as goal
 
 pub returns-in-Short : goal.returns-in-Short
