@@ -55,12 +55,13 @@ use Rattle.fault_serving.specs.Firsts.{FirstsAreFailures, HasOther, OthersAreTol
 judged-first : (c : ℕ) (v : List VectorBit) (bits : List Bool) (f : Part × ℕ) → judge v bits ≡ Some f → IsAmong (failed c f) (differing c v bits)
 judged-first c [] bits f e = absurd (cc)
 judged-first c (v ∷ vs) [] f e = absurd (cc)
-judged-first c (v ∷ vs) (b ∷ bits) f e = by (differs v.wanted b) e
+judged-first c (v ∷ vs) (b ∷ bits) f e = by (differs v.wanted b) e (judged-first c vs bits f)
   where
     by : (d : Bool) → (if d then Some (v.part, v.place) else judge vs bits) ≡ Some f
+        → (judge vs bits ≡ Some f → IsAmong (failed c f) (differing c vs bits))
         → IsAmong (failed c f) (if d then failed c (v.part, v.place) ∷ differing c vs bits else differing c vs bits)
-    by true e = inl (ap (failed c) (same_Some (v.part, v.place) f e))
-    by false e = judged-first c vs bits f e
+    by true e later = inl (ap (failed c) (same_Some (v.part, v.place) f e))
+    by false e later = later e
 
 first-fails : (c : ℕ) (step : Step) (m : AtRest) (f : Part × ℕ) → failure step m ≡ Some f
     → IsAmong (failed c f) (step_failures (record { number = c; what = step }) m)
@@ -248,11 +249,11 @@ missing : (bits : List Mismatch) (m : Mismatch) → is_among bits m ≡ false �
 missing [] m none among = among
 missing (b ∷ bits) m none among =
     let parts = or_parts (is_same_bit m b) (list_any (is_same_bit m) bits) none in
-    by parts.0 parts.1 among
+    by parts.0 (missing bits m parts.1) among
   where
-    by : is_same_bit m b ≡ false → list_any (is_same_bit m) bits ≡ false → IsAmong m (b ∷ bits) → ⊥
+    by : is_same_bit m b ≡ false → (IsAmong m bits → ⊥) → IsAmong m (b ∷ bits) → ⊥
     by other rest (inl e) = false≢true (sym other ∙ ap (is_same_bit m) e ∙ bit_is m)
-    by other rest (inr later) = missing bits m rest later
+    by other rest (inr later) = rest later
 
 other-more : (bits : List Mismatch) (x : Mismatch) (xs : List Mismatch) → HasOther bits xs → HasOther bits (x ∷ xs)
 other-more bits x xs h = record { other = h.other; there = inr h.there; missing = h.missing }

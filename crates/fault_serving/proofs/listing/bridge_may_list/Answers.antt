@@ -23,5 +23,5 @@ returns c = λ fails.
     let pulls : c.pulls_of-pulls.result ≡ pulls_of nets its =
     λ i. record { first = c.pulls_of-pulls.ensures.first i; second = c.pulls_of-pulls.ensures.second i } in
     others_are_told bits nets first second c.args.winner (noted_in block)
-    (ap₂ (λ (p : Pulls) (l : List Noted). lists_firsts bits its p first second l) (sym pulls) (sym (ap (map seen) c.captures.ensures ∙ c.requires.block.by_net))
+    (ap₂ (λ (p : Pulls) (l : List Noted). lists_firsts bits its p first second l) (sym pulls) (sym (ap (map seen) c.captures-2.ensures ∙ c.requires.block.by_net))
     ∙ sym c.lists_firsts.ensures ∙ fails)

@@ -7,4 +7,4 @@ use Rattle.fault_serving.proofs.serving.is_few.Goals as goal
 pub returns-in-Whole : goal.returns-in-Whole
 returns-in-Whole c = λ is.
     subst IsFew (sym c.in-Whole.is)
-    (omega (arith, leb-true c.len.result 64 is, c.len.ensures, ap (λ (l : List NetCapture). length l) c.captures.ensures))
+    (omega (arith, leb-true (length c.captures-2.result.now) 64 is, ap (λ (l : List NetCapture). length l) c.captures-2.ensures))

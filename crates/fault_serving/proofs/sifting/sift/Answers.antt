@@ -14,20 +14,20 @@ faults-init c = record {
   counted = none_are c.args.sieve.now.counting;
 }
 
-pub faults-preserved-in-Some-2 : goal.faults-preserved-in-Some-2
-faults-preserved-in-Some-2 c =
+pub faults-preserved-in-Some-counted : goal.faults-preserved-in-Some-counted
+faults-preserved-in-Some-counted c =
     let s = c.args.sieve.now in
     let i = c.faults.invariant in
     let f = c.in-Some.fault in
-    let o = c.in-Some-2.outcome in
+    let o = c.in-Some-counted.outcome in
     record {
       first = i.first ++ f ∷ [];
       are = i.are ∙ ap (λ (l : List Fault). i.first ++ l) c.in-Some.ensures.steps
           ∙ sym (append_assoc i.first (f ∷ []) (left_of c.next.new.self));
       sifted = λ ns is.
           subst (λ (n : Counts). AreSifted (ComesBy s ns) (i.first ++ f ∷ []) c.faults.kept.items n) (sym c.in_ok-counts.ensures)
-          (one_counted (ComesBy s ns) f o i.first c.faults.kept.items c.faults.counts (c.in-Some-2.ensures.comes ns is) (i.sifted ns is));
-      counted = subst (AreCounted s.counting) (sym c.in_ok-counts.ensures) (more_are s.counting o c.faults.counts c.in-Some-2.ensures.may i.counted);
+          (one_counted (ComesBy s ns) f o i.first c.faults.kept.items c.faults.counts (c.in-Some-counted.ensures.comes ns is) (i.sifted ns is));
+      counted = subst (AreCounted s.counting) (sym c.in_ok-counts.ensures) (more_are s.counting o c.faults.counts c.in-Some-counted.ensures.may i.counted);
     }
 
 pub faults-preserved : goal.faults-preserved

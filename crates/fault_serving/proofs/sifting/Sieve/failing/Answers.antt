@@ -12,8 +12,8 @@ if-then : {A : Type 0} (o : Option A) (P Q : A → Type 0) → ((x : A) → P x 
 if-then None P Q so is = is
 if-then (Some x) P Q so is = so x is
 
-pub returns-then-second-words : goal.returns-then-second-words
-returns-then-second-words c = λ ns is.
+pub returns-then-second-self : goal.returns-then-second-self
+returns-then-second-self c = λ ns is.
     let s = c.args.self.now in
     let first = c.args.first in
     let second = c.args.second in
@@ -21,6 +21,6 @@ returns-then-second-words c = λ ns is.
     λ i. record { first = c.pulls_of-pulls.ensures.first i; second = c.pulls_of-pulls.ensures.second i } in
     if-then c.failing_ways.result _ _
     (λ f told winner.
-    told_by s ns first second c.pulls_of-pulls.result is (omega (arith, c.if-first-words.true)) (omega (arith, c.if-second-words.true)) pulls winner
+    told_by s ns first second c.pulls_of-pulls.result is (omega (arith, c.if-first-self.true)) (omega (arith, c.if-second-self.true)) pulls winner
     (failing_at f winner) (told winner))
     c.failing_ways.ensures
