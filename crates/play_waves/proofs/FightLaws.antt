@@ -1,7 +1,6 @@
 -- What pins drive, by letters, and who fights on a net.
 use Rattle.std.proofs.Common.{◌≡◌, ◌⊎◌, inl, inr, ⊎_elim, ◌<◌, ℕ, zero, suc, Bool, true, false, List, [], ◌∷◌, map, refl, sym, ap, ◌∙◌, arith}
 use Rattle.std.specs.Prelude.{◌==◌, count_by, if◌then◌else◌}
-use Rattle.pin_nets.specs.declared.Counts.{Counts}
 use Rattle.pin_nets.specs.declared.Drive.{Drive}
 use Rattle.pin_nets.specs.declared.Drive.TheVariants.{Nothing, Strong, Weak}
 use Rattle.pin_nets.specs.declared.Level.{Level}
@@ -10,7 +9,7 @@ use Rattle.pin_nets.specs.declared.Pin.{Pin}
 use Rattle.pin_nets.specs.declared.Pull.{Pull}
 use Rattle.pin_nets.specs.declared.Pull.TheVariants.{Down, Free, Up}
 use Rattle.pin_nets.specs.declared.Rule.{Rule}
-use Rattle.pin_nets.specs.Levels.{counts_of, is_strong, is_weak, level_by, of_counts, one, pull_drive, shown}
+use Rattle.pin_nets.specs.Levels.{is_strong, is_weak, level_of, of_counts, one, pull_drive, shown}
 use Rattle.pin_nets.proofs.Counting.{count-cons}
 use Rattle.board_model.specs.Chain.{members}
 use Rattle.board_model.specs.Following.{IsAmong}
@@ -118,7 +117,7 @@ who_fights nets cs net rule drawn =
     ⊎_elim
     (λ strong. inl (strong_one false strong.0, strong_one true strong.1))
     (λ weak. inr (weak_one false weak.0, weak_one true weak.1))
-    (fought c.strong_zeros c.strong_ones c.weak_zeros c.weak_ones contended)
+    (fought (count_by (is_strong false) drives) (count_by (is_strong true) drives) (count_by (is_weak false) drives) (count_by (is_weak true) drives) contended)
   where
     f : Pin → Drive
     f pin = pin_drive (driving nets cs) pin
@@ -126,13 +125,11 @@ who_fights nets cs net rule drawn =
     pull : Drive
     pull = pull_drive net.pull
 
-    c : Counts
-    c = counts_of (pull ∷ map f net.pins)
+    drives : List Drive
+    drives = pull ∷ map f net.pins
 
-    contended : level_by c ≡ Contend
-    contended =
-        sym (ap (λ (r : Rule). shown r pull (map f net.pins)) rule)
-        ∙ is_contended (level nets (members cs) net) drawn
+    contended : level_of drives ≡ Contend
+    contended = sym (ap (λ (r : Rule). shown r pull (map f net.pins)) rule) ∙ is_contended (level nets (members cs) net) drawn
 
     strong_one : (b : Bool) → 0 < count_by (is_strong b) (pull ∷ map f net.pins) → IsDrawn (digit b) nets cs net
     strong_one b some =

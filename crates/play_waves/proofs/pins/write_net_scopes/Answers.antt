@@ -4,8 +4,15 @@ use Rattle.byte_streams.proofs.Fronts.{WritesAll-is, WritesAll-lost}
 use Rattle.pin_nets.specs.Wired.{Net}
 use Rattle.wave_files.specs.Heading.{net_scope, net_scopes}
 use Rattle.wave_files.proofs.Numbers.{there_is}
-use Rattle.play_waves.proofs.PinLaws.{pins_before, pins_next, scope_sent, scopes_done, scopes_left}
+use Rattle.play_waves.proofs.PinLaws.{pins_before, pins_inside, pins_next, scope_sent, scopes_done, scopes_left}
 use Rattle.play_waves.proofs.pins.write_net_scopes.Goals as goal
+
+pub overflow_add-pin : goal.overflow_add-pin
+overflow_add-pin g c =
+    let nets = c.args.chain.now.nets in
+    let k = c.loop-k.k in
+    let it = there_is (λ (x : Net). length x.pins) (slice_get nets k) c.net_size-count.result c.net_size-count.ensures in
+    omega (arith, pins_inside nets k it.thing it.is, it.says, c.loop-k.invariant.place, c.pin_count.ensures.count, c.pin_count.ensures.few)
 
 pub loop-k-preserved : goal.loop-k-preserved
 loop-k-preserved g c =
