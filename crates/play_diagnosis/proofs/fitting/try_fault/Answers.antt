@@ -18,7 +18,7 @@ fits-requires-clause-told c =
     let program = program_of c.args.program.now in
     let w = wiring c.args.plan.now in
     let way = c.in-Some.way in
-    subst (IsToldOf program w way) (sym c.told_at.ensures)
+    subst (IsToldOf program w way) (sym c.told_at-told.ensures)
     (told_there program w (ways c.args.fault) c.args.told.now c.loop-way.k way c.requires.told (sym c.in-Some.ensures))
 
 pub loop-way-preserved : goal.loop-way-preserved
