@@ -74,13 +74,13 @@ CountedIn test f pins = (pin : Pin) × IsAmong pin pins × (test (f pin) ≡ tru
 
 found : (test : Drive → Bool) (f : Pin → Drive) (pins : List Pin) → 0 < count_by test (map f pins) → CountedIn test f pins
 found test f [] some = absurd (omega (arith, some))
-found test f (p ∷ pins) some = by (test (f p)) refl
+found test f (p ∷ pins) some = by (test (f p)) refl (λ more. found test f pins more)
   where
-    by : (b : Bool) → test (f p) ≡ b → CountedIn test f (p ∷ pins)
-    by true is = (p, inl refl, is)
-    by false is =
+    by : (b : Bool) → test (f p) ≡ b → (0 < count_by test (map f pins) → CountedIn test f pins) → CountedIn test f (p ∷ pins)
+    by true is later = (p, inl refl, is)
+    by false is later =
         let none : one (test (f p)) ≡ 0 = ap one is in
-        let rest = found test f pins (omega (arith, some, count-cons test (f p) (map f pins), none)) in
+        let rest = later (omega (arith, some, count-cons test (f p) (map f pins), none)) in
         (rest.0, inr rest.1.0, rest.1.1)
 
 -- the pull is, or one of the pins
