@@ -81,7 +81,7 @@ found test f (p ∷ pins) some = by (test (f p)) refl (λ more. found test f pin
     by false is later =
         let none : one (test (f p)) ≡ 0 = ap one is in
         let rest = later (omega (arith, some, count-cons test (f p) (map f pins), none)) in
-        (rest.0, inr rest.1.0, rest.1.1)
+        (rest.0, inr rest.1, rest.2)
 
 -- the pull is, or one of the pins
 found_or_pull : (test : Drive → Bool) (f : Pin → Drive) (pull : Drive) (pins : List Pin) → 0 < count_by test (pull ∷ map f pins)
@@ -135,11 +135,11 @@ who_fights nets cs net rule drawn =
     strong_one b some =
         let none : one (is_strong b pull) ≡ 0 = ap one (no_strong_pull b net.pull) in
         let it = found (is_strong b) f net.pins (omega (arith, some, count-cons (is_strong b) pull (map f net.pins), none)) in
-        (it.0, it.1.0, strong_is b (f it.0) it.1.1)
+        (it.0, it.1, strong_is b (f it.0) it.2)
 
     weak_one : (b : Bool) → 0 < count_by (is_weak b) (pull ∷ map f net.pins) → IsPulled b nets cs net
     weak_one b some =
         ⊎_elim
         (λ its. inr (weak_is b pull its))
-        (λ it. inl (it.0, it.1.0, ap drive_byte (weak_is b (f it.0) it.1.1)))
+        (λ it. inl (it.0, it.1, ap drive_byte (weak_is b (f it.0) it.2)))
         (found_or_pull (is_weak b) f pull net.pins some)
