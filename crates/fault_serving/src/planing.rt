@@ -198,6 +198,7 @@ pub(crate) fn failing_ways(
 }
 
 /// Whether a bridge fails where this one wins, if the words of its nets tell it.
+#[inline(always)]
 fn told_to_fail(
     whole: bool,
     winner: Winner,
