@@ -88,7 +88,7 @@ def heading(board: Board, asked: Asked) -> str:
         lines += [f"$scope module {part.name} $end",
                   *(f"$var {kind} {code} {part.name}_{name} $end" for (kind, name), code in its), "$upscope $end"]
     for net in board.nets if asked.drives else []:
-        names = [f"{net.name}_{board.parts[place].name}_{spelt(port)}" for place, port in net.pins]
+        names = [f"{net.name}-{board.parts[place].name}-{spelt(port)}" for place, port in net.pins]
         lines += [f"$scope module {net.name} $end", *(f"$var wire 1 {sign(next(pins))} {name} $end" for name in names),
                   "$upscope $end"]
     return "".join(line + "\n" for line in [*lines, "$upscope $end", "$enddefinitions $end"])

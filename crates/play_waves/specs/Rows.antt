@@ -243,7 +243,7 @@ pub record WaveRows : Type 0 where
       ++ (codes "$var reg 4 ' U1_state $end\n$var string 1 ( U1_word $end\n$var reg 2 ) U1_instruction $end\n"
       ++ (codes "$upscope $end\n$scope module U2 $end\n$var reg 4 * U2_state $end\n$var string 1 + U2_word $end\n"
       ++ (codes "$var reg 2 , U2_instruction $end\n$upscope $end\n$var wire 1 - N $end\n$scope module N $end\n"
-      ++ (codes "$var wire 1 6 N_U1_Q $end\n$var wire 1 7 N_U2_Q $end\n$upscope $end\n$upscope $end\n"
+      ++ (codes "$var wire 1 6 N-U1-Q $end\n$var wire 1 7 N-U2-Q $end\n$upscope $end\n$upscope $end\n"
       ++ (codes "$enddefinitions $end\n#0\n$dumpvars\n0!\nx\"\nx#\nz$\n1%\nb0 &\n"
       ++ codes "b1111 '\nsRESET (\nb11 )\nb1111 *\nsRESET +\nb11 ,\n0-\n06\n07\n$end\n")))))))
   -- In EXTEST U1 only pulls: its pin is told, and the net stays.

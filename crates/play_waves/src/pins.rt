@@ -139,7 +139,7 @@ fn write_front<W: Sink>(name: &str, out: &mut Counted<W>) -> Result<(), Broken>
     requires { out.old.failures ≡ 0 }
     ensures { WritesAll W.contents out.old out.new (fronted name.now) result }
 {
-    put_pieces(out, &[name.as_bytes(), b"_"])
+    put_pieces(out, &[name.as_bytes(), b"-"])
 }
 
 /// Writes a pin by its device and its port, nothing where it is of no device of the chain.

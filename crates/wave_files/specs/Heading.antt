@@ -90,17 +90,17 @@ abbrev pub device_extra_variables : Extras → List ChipState → List Net → L
 device_extra_variables x cs nets =
     if draws_of_devices x then by_numbers (extra_variables x) extras_of_device (first_of_extras cs nets) cs else []
 
--- the front of a name: `U1_`
+-- A name, parted from what follows by a letter that no name has: `U1-`.
 abbrev pub fronted : (name : List ℕ) → List ℕ
-fronted name = name ++ codes "_"
+fronted name = name ++ codes "-"
 
--- a pin by its device, and its port as board files write it: `U1_D(2)`
+-- a pin by its device, and its port as board files write it: `U1-D(2)`
 abbrev pub pin_name : List ChipState → Pin → List ℕ
 pin_name cs pin =
     unwrap_or
     (option_map (λ c. fronted c.member.name ++ port_of c.member.device pin.port) (slice_get cs pin.device)) []
 
--- what a pin of a net drives, by a name that begins with the net's: `BUS2_U1_D(2)`
+-- what a pin of a net drives, by a name that begins with the net's: `BUS2-U1-D(2)`
 abbrev pub drive_variable : List ChipState → (net : List ℕ) → ℕ → Pin → List ℕ
 drive_variable cs net n pin = variable (codes "wire 1") n (fronted net ++ pin_name cs pin)
 
