@@ -7,3 +7,4 @@ pub mod Played
 pub mod RowsCompute
 pub mod DrawnLaws
 pub mod FrontLaws
+pub mod NameLaws

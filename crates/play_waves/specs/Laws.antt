@@ -1,7 +1,7 @@
 -- What holds of every wave.
 use Rattle.std.specs.Prelude.{◌≡◌, ◌⊎◌, Bool, true, false, ℕ, zero, suc, ◌+◌, ◌-◌, ◌*◌, ◌/◌, ◌≤◌, List, [], ◌∷◌}
-use Rattle.std.specs.Prelude.{◌++◌, length}
-use Rattle.std.specs.Prelude.{map, Some, None}
+use Rattle.std.specs.Prelude.{◌++◌, codes, length, map, slice_get, Some, None}
+use Rattle.std.specs.List.{AllByRecursion}
 use Rattle.jt_tap.specs.declared.State.{State}
 use Rattle.bitbang_protocol.specs.declared.Cycle.{Cycle}
 use Rattle.bitbang_protocol.specs.declared.Message.{Message}
@@ -19,6 +19,7 @@ use Rattle.pin_nets.specs.declared.Pin.{Pin}
 use Rattle.pin_nets.specs.declared.Rule.TheVariants.{Counted}
 use Rattle.pin_nets.specs.Levels.{pull_drive}
 use Rattle.pin_nets.specs.Wired.{Net}
+use Rattle.board_description.specs.Words.{port_of}
 use Rattle.board_model.specs.Chain.{BoardState, ChipState, hear, members, reply_of, tdi_before}
 use Rattle.board_model.specs.Following.{IsAmong}
 use Rattle.board_model.specs.Nets.{level, pin_drive}
@@ -30,6 +31,7 @@ use Rattle.play_model.specs.Play.{play}
 use Rattle.output_words.specs.Digits.{digit}
 use Rattle.wave_files.specs.declared.extras.Extras.{Extras}
 use Rattle.wave_files.specs.Drives.{drive_byte, driving, weak_byte}
+use Rattle.wave_files.specs.Heading.{fronted, pin_name}
 use Rattle.wave_files.specs.Values.{level_byte, undriven, unknown, wire}
 use Rattle.play_drawing.specs.declared.notes.Note.{Note}
 use Rattle.play_drawing.specs.Drawing.{after_drawing, after_mark, lasts, later, latest, shown}
@@ -80,6 +82,22 @@ WhoFightsIsDrawn = (nets : List Net) (cs : List ChipState) (net : Net) → net.r
     → level_byte (level nets (members cs) net) ≡ unknown
     → (IsDrawn (digit false) nets cs net × IsDrawn (digit true) nets cs net)
     ⊎ (IsPulled false nets cs net × IsPulled true nets cs net)
+
+-- ---- names of pins
+
+-- No letter of it is the one by which names are parted: so are all that board files and descriptions give.
+abbrev pub IsOneName : List ℕ → Type 0
+IsOneName name = AllByRecursion (λ c. c ∷ [] ≡ codes "-" → ⊥) name
+
+-- Pins that are drawn by the same name have nets of the same name, devices of the same name, and ports that are spelt
+-- alike.
+abbrev pub PinsAreToldApart : Type 0
+PinsAreToldApart = (cs : List ChipState) (net other : List ℕ) (p q : Pin) (c d : ChipState)
+    → slice_get cs p.device ≡ Some c → slice_get cs q.device ≡ Some d
+    → IsOneName net → IsOneName other → IsOneName c.member.name → IsOneName d.member.name
+    → fronted net ++ pin_name cs p ≡ fronted other ++ pin_name cs q
+    → (net ≡ other)
+    × ((c.member.name ≡ d.member.name) × (port_of c.member.device p.port ≡ port_of d.member.device q.port))
 
 -- ---- time
 

@@ -4,6 +4,7 @@ use Rattle.std.specs.Prelude.{replicate, take}
 use Rattle.bitbang_protocol.specs.declared.Message.{Message}
 use Rattle.bitbang_protocol.specs.declared.Message.TheVariants.{Write}
 use Rattle.pin_nets.specs.declared.Drive.TheVariants.{Nothing, Weak}
+use Rattle.pin_nets.specs.declared.Pin.{Pin}
 use Rattle.board_model.specs.Bare.{bare_board}
 use Rattle.board_model.specs.Chain.{BoardState}
 use Rattle.play_model.specs.declared.kind.Kind.{Kind}
@@ -16,10 +17,11 @@ use Rattle.wave_files.specs.declared.extras.Extras.{Extras}
 use Rattle.wave_files.specs.Changes.{stamp}
 use Rattle.wave_files.specs.Drives.{drive_byte}
 use Rattle.wave_files.specs.Extras.{no_extras}
+use Rattle.wave_files.specs.Heading.{pin_name}
 use Rattle.wave_files.specs.Values.{byte_line}
 use Rattle.play_drawing.specs.Waves.{heading}
 use Rattle.play_drawing.specs.Pens.{Pen, begun}
-use Rattle.play_waves.specs.Samples.{asserting, delayed, driving, failing, pair, rivals, selecting, waiting}
+use Rattle.play_waves.specs.Samples.{asserting, called, delayed, driving, failing, pair, rivals, selecting, waiting}
 use Rattle.play_drawing.specs.Waves.{begins, wave}
 
 abbrev pub fresh : Pen
@@ -83,6 +85,9 @@ turn number messages = written number ++ all_written messages
 -- the names of instructions and each device's TDO besides
 abbrev pub both : Extras
 both = record no_extras { names = true; tdos = true }
+
+abbrev pub first_pin : Pin
+first_pin = record { device = 0; port = 0 }
 
 -- what each pin drives besides
 abbrev pub pins : Extras
@@ -246,6 +251,9 @@ pub record WaveRows : Type 0 where
       ++ (codes "$var wire 1 6 N-U1-Q $end\n$var wire 1 7 N-U2-Q $end\n$upscope $end\n$upscope $end\n"
       ++ (codes "$enddefinitions $end\n#0\n$dumpvars\n0!\nx\"\nx#\nz$\n1%\nb0 &\n"
       ++ codes "b1111 '\nsRESET (\nb11 )\nb1111 *\nsRESET +\nb11 ,\n0-\n06\n07\n$end\n")))))))
+  -- Names may have a `_`: port A_Q of U1 is not called as port Q of U1_A.
+  pub pin_of_u1 : pin_name (called (codes "U1") (codes "A_Q")).chips first_pin ≡ codes "U1-A_Q"
+  pub pin_of_u1_a : pin_name (called (codes "U1_A") (codes "Q")).chips first_pin ≡ codes "U1_A-Q"
   -- In EXTEST U1 only pulls: its pin is told, and the net stays.
   pub pulls_row : extra_behind pins 1 (selecting ∷ []) rivals
       ≡ turn (at 0 (codes "b1 &\n"))

@@ -1,5 +1,5 @@
 -- The boards of the worked waves, and the steps that are played on them.
-use Rattle.std.specs.Prelude.{Bool, true, false, [], ◌∷◌, ◌++◌, map, codes, Option, Some, None}
+use Rattle.std.specs.Prelude.{ℕ, Bool, true, false, List, [], ◌∷◌, ◌++◌, map, codes, Option, Some, None}
 use Rattle.jt_tap.specs.declared.Column.TheVariants.{Dr, Ir}
 use Rattle.jt_tap.specs.declared.State.TheVariants.{Idle}
 use Rattle.bsdl_device.specs.Device.{Device}
@@ -64,6 +64,12 @@ abbrev pub rivals : BoardState
 rivals = board_at_rest (power_up (shared ∷ [])
     (powered (codes "U1") pulling (false ∷ true ∷ []) [] false
     ∷ powered (codes "U2") driver (false ∷ true ∷ []) [] false ∷ []))
+
+-- a board of one device of this name, whose one port has this name
+abbrev pub called : (device port : List ℕ) → BoardState
+called device port = board_at_rest (power_up []
+    (powered device
+    (record bare { ports = record { name = port; index = None; mode = Out; is_tap = false } ∷ [] }) [] [] false ∷ []))
 
 -- a bit of a scan: what goes in, and what is wanted
 abbrev pub bit : Bool → Option Bool → VectorBit

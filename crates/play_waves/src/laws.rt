@@ -1,8 +1,8 @@
 //! What holds of every wave, and worked waves.
 
 ghost use Rattle.play_waves.specs.Laws.{APassIsDrawnToItsEnd, EachDriveHasItsLetter, EachStepTakesItsCycles};
-ghost use Rattle.play_waves.specs.Laws.{EachTdoIsHandedOn, TdoDrawnIsTheAnswer, TimeGoesOn, WhatFailsIsTold};
-ghost use Rattle.play_waves.specs.Laws.{WhatIsDrawnIsTheBoard, WhoFightsIsDrawn};
+ghost use Rattle.play_waves.specs.Laws.{EachTdoIsHandedOn, PinsAreToldApart, TdoDrawnIsTheAnswer, TimeGoesOn};
+ghost use Rattle.play_waves.specs.Laws.{WhatFailsIsTold, WhatIsDrawnIsTheBoard, WhoFightsIsDrawn};
 ghost use Rattle.play_waves.specs.Rows.{WaveRows};
 
 /// Behind any messages what is drawn is the board that took them; and TDO as it is drawn then is the byte with which
@@ -18,6 +18,11 @@ pub fn what_is_drawn_is_played()
 pub fn who_fights_is_drawn()
     ensures letters { EachDriveHasItsLetter }
     ensures fights { WhoFightsIsDrawn }
+{}
+
+/// What pins drive is drawn by names that tell pins apart, whatever names the board has, if none of them has a `-`.
+pub fn pins_are_told_apart()
+    ensures { PinsAreToldApart }
 {}
 
 /// Messages last one after another, up to the last time that is told; a step lasts a period for each of its cycles, and
