@@ -1,32 +1,25 @@
--- Commands with an argument or a subcommand more.
-use Rattle.std.proofs.Common.{◌≡◌, Bool, false, Result, Ok, Err, ap, ◌∙◌}
-use Rattle.std.specs.Prelude.{IfOk, ◌||◌}
-use Rattle.clap.specs.Words.{AddsArg, AddsSubcommand, App, Rule, Shape, app_of, rule_of, shape_of, with_rule, with_subcommand}
+-- Commands with a row of a table more.
+use Rattle.std.proofs.Common.{◌≡◌, ◌<◌, ◌+◌, ℕ, Bool, false, List, length, take, sym, ap, ◌∙◌}
+use Rattle.std.specs.Prelude.{◌||◌, fold, get_or}
+use Rattle.std.proofs.lemmas.List.Sums.{fold_more}
+use Rattle.clap.specs.Words.{AddsArg, AddsSubcommand, App, app_of, rule_of, shape_of, with_rule, with_subcommand}
 use Rattle.clap.specs.declared.builder.arg.Arg.{Arg}
 use Rattle.clap.specs.declared.builder.command.Command.{Command}
 use Rattle.clap.specs.declared.builder.command.Command.TheViews.{out-Command}
+use Rattle.command_line.specs.Tables.{rule_at, shape_at, with_argument, with_command}
+use Rattle.command_line.specs.declared.command_table.Argument.{Argument}
+use Rattle.command_line.specs.declared.command_table.Usage.{Usage}
 
-pub with_argument : (old new : Command) (a : Arg) (app : App) (r : Rule) → AddsArg old a new → a.global ≡ false → rule_of a ≡ r → app_of old ≡ app → app_of new ≡ with_rule app r
-with_argument old new a app r adds local rule was = adds.shape local ∙ ap (λ x. with_rule (app_of old) x) rule ∙ ap (λ x. with_rule x r) was
-
-pub with_last_argument : {E : Type 0} (old : Command) (a : Arg) (app : App) (r : Rule) (new : Result Command E) → IfOk new (λ c. AddsArg old a c) → a.global ≡ false → rule_of a ≡ r → app_of old ≡ app
-    → IfOk new (λ c. shape_of c ≡ (with_rule app r).top)
-with_last_argument old a app r (Ok new) adds local rule was = ap (λ (x : App). x.top) (with_argument old new a app r adds local rule was)
-with_last_argument old a app r (Err e) adds local rule was = tt
-
-pub with_command : (old sub new : Command) (app : App) (s : Shape) → AddsSubcommand old sub new → (out-Command sub).has_globals ≡ false → shape_of sub ≡ s → app_of old ≡ app → app_of new ≡ with_subcommand app s
-with_command old sub new app s adds local shape was = adds.shape local ∙ ap (λ x. with_subcommand (app_of old) x) shape ∙ ap (λ x. with_subcommand x s) was
-
-pub with_last_command : {E : Type 0} (old sub : Command) (app : App) (s : Shape) (new : Result Command E) → IfOk new (λ c. AddsSubcommand old sub c) → (out-Command sub).has_globals ≡ false → shape_of sub ≡ s → app_of old ≡ app
-    → IfOk new (λ c. app_of c ≡ with_subcommand app s)
-with_last_command old sub app s (Ok new) adds local shape was = with_command old sub new app s adds local shape was
-with_last_command old sub app s (Err e) adds local shape was = tt
+pub one_argument_more : (first : App) (rows : List Argument) (i : ℕ) (d : Argument) (old new : Command) (a : Arg) → i < length rows → app_of old ≡ fold with_argument first (take i rows)
+    → AddsArg old a new → a.global ≡ false → rule_of a ≡ rule_at (get_or rows i d) → app_of new ≡ fold with_argument first (take (i + 1) rows)
+one_argument_more first rows i d old new a below was adds local rule =
+    adds.shape local ∙ ap (with_rule (app_of old)) rule ∙ ap (λ (app : App). with_argument app (get_or rows i d)) was ∙ sym (fold_more with_argument first rows i d below)
 
 -- no argument of a command is global
 pub no_globals : (old new : Command) (a : Arg) → AddsArg old a new → a.global ≡ false → (out-Command old).has_globals ≡ false → (out-Command new).has_globals ≡ false
 no_globals old new a adds local was = adds.globals ∙ ap (λ (b : Bool). b || a.global) was ∙ local
 
-pub last_no_globals : {E : Type 0} (old : Command) (a : Arg) (new : Result Command E) → IfOk new (λ c. AddsArg old a c) → a.global ≡ false → (out-Command old).has_globals ≡ false
-    → IfOk new (λ c. (out-Command c).has_globals ≡ false)
-last_no_globals old a (Ok new) adds local was = no_globals old new a adds local was
-last_no_globals old a (Err e) adds local was = tt
+pub one_command_more : (first : App) (rows : List Usage) (i : ℕ) (d : Usage) (old sub new : Command) → i < length rows → app_of old ≡ fold with_command first (take i rows)
+    → AddsSubcommand old sub new → (out-Command sub).has_globals ≡ false → shape_of sub ≡ shape_at (get_or rows i d) → app_of new ≡ fold with_command first (take (i + 1) rows)
+one_command_more first rows i d old sub new below was adds local shape =
+    adds.shape local ∙ ap (with_subcommand (app_of old)) shape ∙ ap (λ (app : App). with_command app (get_or rows i d)) was ∙ sym (fold_more with_command first rows i d below)

@@ -1,3 +1,4 @@
 pub mod Asking
+pub mod Tables
 pub mod Usage
 pub mod View

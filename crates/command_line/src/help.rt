@@ -29,19 +29,6 @@ Examples:
 
 Pages: docs/svf.md, docs/board_file.md, docs/output.md, docs/waves.md";
 
-pub(crate) const VCD_FAILS: &str =
-    "The waves also show which bits are wanted, and which of them fail";
-
-pub(crate) const VCD_NAMES: &str =
-    "The waves also show the names of instructions, unless they are without strings";
-
-pub(crate) const VCD_TDO: &str = "The waves also show the TDO of each device";
-
-pub(crate) const VCD_DRIVES: &str =
-    "The waves also show what each pin of a named net drives, weak levels as l and h";
-
-pub(crate) const VCD_PLAIN: &str = "The waves are without strings, for viewers that know none";
-
 pub(crate) const CHECK: &str = "\
 Example:
   jt_tool check test.svf --explain

@@ -3,6 +3,8 @@
 #![tactic(auto)]
 
 mod boards;
+mod command_table;
+mod commands;
 mod descriptions;
 mod help;
 mod links;

@@ -1,34 +1,21 @@
 //! What the command line asks for.
 
-ghost use Rattle.std.specs.Prelude.{◌≡◌, map, false, IfOk, option_map};
-ghost use Rattle.clap.specs.declared.builder.command.Command.TheViews.{out-Command};
-ghost use Rattle.clap.specs.Words.{FailsBy, app_of, fault_of, found_of, new_app, rows_of, rule_of, shape_of};
-ghost use Rattle.clap.specs.Words.{subcommand_rows_of};
+ghost use Rattle.std.specs.Prelude.{◌≡◌, map, IfOk, option_map};
+ghost use Rattle.clap.specs.Words.{FailsBy, fault_of, found_of, rows_of, subcommand_rows_of};
 ghost use Rattle.command_line.specs.Asking as spec;
 ghost use Rattle.command_line.specs.View.{action_of, asked_of, server_view, waves_view};
 
-use crate::help;
-use clap::builder::ValueParser;
-use clap::{Arg, ArgAction, ArgMatches, Command, Error};
-use std::alloc::{AllocError, Global};
+use crate::commands::command;
+use clap::{ArgMatches, Error};
+use std::alloc::Global;
 
-/// A port is a number from 1.
-const LEAST_PORT: u64 = 1;
-/// It has 16 bits.
-const MOST_PORT: u64 = 65_535;
-/// The most bytes that may be taken of one connection.
-const MOST_BYTES: u64 = 1_000_000_000_000;
 /// The bytes that are taken of one connection at most where nothing is said of them.
 const USUAL_BYTES: u64 = 1_000_000_000;
-/// The most connections that are served one after another.
-const MOST_CONNECTIONS: u64 = 1_000_000;
-/// The most seconds that a call may wait for the peer: a day.
-const MOST_SECONDS: u64 = 86_400;
 /// The host that is played on where none is named: this machine.
 const THIS_HOST: &str = "127.0.0.1";
 
 /// What is done with a text, or with a board.
-#[derive(Debug, Clone, Copy)]
+#[derive(Clone, Copy)]
 pub enum Task<'a> {
     /// The text is played, and where `bytes` is set the bytes sent are told too. Where `all` is set it is played to the
     /// end, and all bits that fail are told. Where `explain` is set, it is told of each bit that fails why, and of a
@@ -78,7 +65,7 @@ pub enum Task<'a> {
 }
 
 /// How the waves of a play are drawn.
-#[derive(Debug, Clone, Copy)]
+#[derive(Clone, Copy)]
 pub struct Waves<'a> {
     /// The file that they are drawn into.
     pub file: &'a str,
@@ -95,7 +82,7 @@ pub struct Waves<'a> {
 }
 
 /// How a board is served.
-#[derive(Debug, Clone, Copy)]
+#[derive(Clone, Copy)]
 pub struct Serving {
     /// The port of this machine that clients connect to, 1 to 65,535.
     pub port: u16,
@@ -108,7 +95,7 @@ pub struct Serving {
 }
 
 /// A server that a text is played on.
-#[derive(Debug, Clone, Copy)]
+#[derive(Clone, Copy)]
 pub struct Server<'a> {
     /// Its name or address.
     pub host: &'a str,
@@ -119,7 +106,7 @@ pub struct Server<'a> {
 }
 
 /// What the command line asks for.
-#[derive(Debug, Clone, Copy)]
+#[derive(Clone, Copy)]
 pub struct Request<'a> {
     /// The file of the text, `None` for standard input.
     pub svf: Option<&'a str>,
@@ -321,346 +308,4 @@ fn is_given(found: &ArgMatches<'_>, flag: &str) -> bool
         Some(text) => text == "true",
         None => false,
     }
-}
-
-fn command<'a>(alloc: Global) -> Result<Command<'a>, AllocError>
-    ensures { IfOk result (λ c. app_of c ≡ spec.jt_tool) }
-{
-    titled(
-        alloc,
-        "jt_tool",
-        "Plays Serial Vector Format programs on a simulated boundary-scan board",
-        help::ALL,
-    )
-    .version(help::VERSION)
-    .subcommand(play_command(alloc)?)?
-    .subcommand(check_command(alloc)?)?
-    .subcommand(loop_command(alloc)?)?
-    .subcommand(serve_command(alloc)?)?
-    .subcommand(connect_command(alloc)?)?
-    .subcommand(describe_command(alloc)?)?
-    .subcommand(cover_command(alloc)?)?
-    .subcommand(diagnose_command(alloc)?)
-}
-
-/// A command of this name, with what help tells of it in front of the options and behind them.
-fn titled<'a>(alloc: Global, name: &'a str, about: &'a str, more: &'a str) -> Command<'a>
-    ensures app { app_of result ≡ new_app name.now }
-    ensures local { (out-Command result).has_globals ≡ false }
-{
-    Command::new(alloc, name).about(about).after_help(more)
-}
-
-fn play_command<'a>(alloc: Global) -> Result<Command<'a>, AllocError>
-    ensures shape { IfOk result (λ c. shape_of c ≡ spec.play) }
-    ensures local { IfOk result (λ c. (out-Command c).has_globals ≡ false) }
-{
-    titled(
-        alloc,
-        "play",
-        "Plays a program in process, and prints the verdict and the board's report",
-        help::PLAY,
-    )
-    .arg(svf_arg(alloc))?
-    .arg(board_arg(alloc))?
-    .arg(bytes_arg(alloc))?
-    .arg(all_arg(alloc))?
-    .arg(reasons_arg(alloc))?
-    .arg(vcd_arg(alloc))?
-    .arg(waves_flag(alloc, "vcd-fails", help::VCD_FAILS))?
-    .arg(waves_flag(alloc, "vcd-names", help::VCD_NAMES))?
-    .arg(waves_flag(alloc, "vcd-tdo", help::VCD_TDO))?
-    .arg(waves_flag(alloc, "vcd-drives", help::VCD_DRIVES))?
-    .arg(waves_flag(alloc, "vcd-plain", help::VCD_PLAIN))
-}
-
-fn check_command<'a>(alloc: Global) -> Result<Command<'a>, AllocError>
-    ensures shape { IfOk result (λ c. shape_of c ≡ spec.check) }
-    ensures local { IfOk result (λ c. (out-Command c).has_globals ≡ false) }
-{
-    titled(
-        alloc,
-        "check",
-        "Tells whether a program is accepted, its statements and steps, and which instructions stand for BYPASS",
-        help::CHECK,
-    )
-    .arg(svf_arg(alloc))?
-    .arg(board_arg(alloc))?
-    .arg(explain_arg(alloc))
-}
-
-fn loop_command<'a>(alloc: Global) -> Result<Command<'a>, AllocError>
-    ensures shape { IfOk result (λ c. shape_of c ≡ spec.loop) }
-    ensures local { IfOk result (λ c. (out-Command c).has_globals ≡ false) }
-{
-    titled(
-        alloc,
-        "loop",
-        "Plays a program over a socket of this machine, and prints the verdict and the board's report",
-        help::LOOP,
-    )
-    .arg(svf_arg(alloc))?
-    .arg(board_arg(alloc))?
-    .arg(all_arg(alloc))?
-    .arg(reasons_arg(alloc))
-}
-
-fn serve_command<'a>(alloc: Global) -> Result<Command<'a>, AllocError>
-    ensures shape { IfOk result (λ c. shape_of c ≡ spec.serve) }
-    ensures local { IfOk result (λ c. (out-Command c).has_globals ≡ false) }
-{
-    titled(
-        alloc,
-        "serve",
-        "Serves a board to clients on 127.0.0.1, by OpenOCD's remote_bitbang protocol",
-        help::SERVE,
-    )
-    .arg(served_board_arg(alloc))?
-    .arg(port_arg(alloc))?
-    .arg(at_most_arg(alloc))?
-    .arg(connections_arg(alloc))?
-    .arg(timeout_arg(alloc))?
-    .arg(explain_arg(alloc))
-}
-
-fn connect_command<'a>(alloc: Global) -> Result<Command<'a>, AllocError>
-    ensures shape { IfOk result (λ c. shape_of c ≡ spec.connect) }
-    ensures local { IfOk result (λ c. (out-Command c).has_globals ≡ false) }
-{
-    titled(
-        alloc,
-        "connect",
-        "Plays a program on a server of OpenOCD's remote_bitbang protocol, and prints the verdict",
-        help::CONNECT,
-    )
-    .arg(svf_arg(alloc))?
-    .arg(port_arg(alloc))?
-    .arg(host_arg(alloc))?
-    .arg(timeout_arg(alloc))?
-    .arg(all_arg(alloc))?
-    .arg(reasons_arg(alloc))
-}
-
-fn describe_command<'a>(alloc: Global) -> Result<Command<'a>, AllocError>
-    ensures shape { IfOk result (λ c. shape_of c ≡ spec.describe) }
-    ensures local { IfOk result (λ c. (out-Command c).has_globals ≡ false) }
-{
-    titled(
-        alloc,
-        "describe",
-        "Prints a board's devices, instructions, cells and nets, one fact a line",
-        help::DESCRIBE,
-    )
-    .arg(served_board_arg(alloc))?
-    .arg(explain_arg(alloc))
-}
-
-fn cover_command<'a>(alloc: Global) -> Result<Command<'a>, AllocError>
-    ensures shape { IfOk result (λ c. shape_of c ≡ spec.cover) }
-    ensures local { IfOk result (λ c. (out-Command c).has_globals ≡ false) }
-{
-    titled(
-        alloc,
-        "cover",
-        "Tells which single faults of a board's nets a program would miss",
-        help::COVER,
-    )
-    .arg(svf_arg(alloc))?
-    .arg(served_board_arg(alloc))?
-    .arg(list_arg(alloc))?
-    .arg(explain_arg(alloc))
-}
-
-fn diagnose_command<'a>(alloc: Global) -> Result<Command<'a>, AllocError>
-    ensures shape { IfOk result (λ c. shape_of c ≡ spec.diagnose) }
-    ensures local { IfOk result (λ c. (out-Command c).has_globals ≡ false) }
-{
-    titled(
-        alloc,
-        "diagnose",
-        "Tells which single faults of a board's nets give just the bits that a log of a play has",
-        help::DIAGNOSE,
-    )
-    .arg(named_svf_arg(alloc))?
-    .arg(served_board_arg(alloc))?
-    .arg(log_arg(alloc))?
-    .arg(explain_arg(alloc))
-}
-
-fn log_arg<'a>(alloc: Global) -> Arg<'a>
-    ensures rule { rule_of result ≡ spec.log }
-    ensures local { result.global ≡ false }
-{
-    Arg::new(alloc, "log")
-        .long("log")
-        .action(ArgAction::Set)
-        .help("The file of what a play printed; standard input where none is named")
-}
-
-fn named_svf_arg<'a>(alloc: Global) -> Arg<'a>
-    ensures rule { rule_of result ≡ spec.named_svf }
-    ensures local { result.global ≡ false }
-{
-    Arg::new(alloc, "svf")
-        .required(true)
-        .action(ArgAction::Set)
-        .help("The file of the program")
-}
-
-fn list_arg<'a>(alloc: Global) -> Arg<'a>
-    ensures rule { rule_of result ≡ spec.list }
-    ensures local { result.global ≡ false }
-{
-    Arg::new(alloc, "list")
-        .long("list")
-        .action(ArgAction::SetTrue)
-        .help("Tells every way of every fault, and by which bit it is caught first")
-}
-
-fn bytes_arg<'a>(alloc: Global) -> Arg<'a>
-    ensures rule { rule_of result ≡ spec.bytes }
-    ensures local { result.global ≡ false }
-{
-    Arg::new(alloc, "bytes")
-        .long("bytes")
-        .action(ArgAction::SetTrue)
-        .help("Also prints the bytes sent")
-}
-
-fn all_arg<'a>(alloc: Global) -> Arg<'a>
-    ensures rule { rule_of result ≡ spec.all }
-    ensures local { result.global ≡ false }
-{
-    Arg::new(alloc, "all")
-        .long("all")
-        .action(ArgAction::SetTrue)
-        .help("Plays to the end, and prints the first 256 bits that fail and how many do")
-}
-
-fn explain_arg<'a>(alloc: Global) -> Arg<'a>
-    ensures rule { rule_of result ≡ spec.explain }
-    ensures local { result.global ≡ false }
-{
-    Arg::new(alloc, "explain")
-        .long("explain")
-        .action(ArgAction::SetTrue)
-        .help("Also tells where a refusal lies, or the name that it speaks of")
-}
-
-fn reasons_arg<'a>(alloc: Global) -> Arg<'a>
-    ensures rule { rule_of result ≡ spec.explain }
-    ensures local { result.global ≡ false }
-{
-    Arg::new(alloc, "explain")
-        .long("explain")
-        .action(ArgAction::SetTrue)
-        .help("Also tells why a bit fails, and where a refusal lies")
-}
-
-fn vcd_arg<'a>(alloc: Global) -> Arg<'a>
-    ensures rule { rule_of result ≡ spec.vcd }
-    ensures local { result.global ≡ false }
-{
-    Arg::new(alloc, "vcd")
-        .long("vcd")
-        .action(ArgAction::Set)
-        .help("The file that the waves of the play are drawn into")
-}
-
-/// A flag that says how waves are drawn, with what help tells of it.
-fn waves_flag<'a>(alloc: Global, name: &'a str, text: &'a str) -> Arg<'a>
-    ensures rule { rule_of result ≡ spec.waves_flag name.now }
-    ensures local { result.global ≡ false }
-{
-    Arg::new(alloc, name)
-        .long(name)
-        .action(ArgAction::SetTrue)
-        .help(text)
-}
-
-fn board_arg<'a>(alloc: Global) -> Arg<'a>
-    ensures rule { rule_of result ≡ spec.board }
-    ensures local { result.global ≡ false }
-{
-    Arg::new(alloc, "board")
-        .long("board")
-        .action(ArgAction::Set)
-        .help("The board file; one bare device where none is named")
-}
-
-fn svf_arg<'a>(alloc: Global) -> Arg<'a>
-    ensures rule { rule_of result ≡ spec.svf }
-    ensures local { result.global ≡ false }
-{
-    Arg::new(alloc, "svf").action(ArgAction::Set).help(
-        "The file of the program; standard input where none is named",
-    )
-}
-
-fn served_board_arg<'a>(alloc: Global) -> Arg<'a>
-    ensures rule { rule_of result ≡ spec.served_board }
-    ensures local { result.global ≡ false }
-{
-    Arg::new(alloc, "board")
-        .long("board")
-        .required(true)
-        .action(ArgAction::Set)
-        .help("The board file")
-}
-
-fn port_arg<'a>(alloc: Global) -> Arg<'a>
-    ensures rule { rule_of result ≡ spec.port }
-    ensures local { result.global ≡ false }
-{
-    Arg::new(alloc, "port")
-        .long("port")
-        .required(true)
-        .action(ArgAction::Set)
-        .value_parser(ValueParser::Unsigned(LEAST_PORT, MOST_PORT))
-        .help("The port, 1 to 65535")
-}
-
-fn at_most_arg<'a>(alloc: Global) -> Arg<'a>
-    ensures rule { rule_of result ≡ spec.at_most }
-    ensures local { result.global ≡ false }
-{
-    Arg::new(alloc, "at-most")
-        .long("at-most")
-        .action(ArgAction::Set)
-        .value_parser(ValueParser::Unsigned(0, MOST_BYTES))
-        .help("The most bytes that are taken of one connection; 1000000000 where none are named")
-}
-
-fn connections_arg<'a>(alloc: Global) -> Arg<'a>
-    ensures rule { rule_of result ≡ spec.connections }
-    ensures local { result.global ≡ false }
-{
-    Arg::new(alloc, "connections")
-        .long("connections")
-        .action(ArgAction::Set)
-        .value_parser(ValueParser::Unsigned(1, MOST_CONNECTIONS))
-        .help("The connections that are served, one after another; 1 where none are named")
-}
-
-fn timeout_arg<'a>(alloc: Global) -> Arg<'a>
-    ensures rule { rule_of result ≡ spec.timeout }
-    ensures local { result.global ≡ false }
-{
-    Arg::new(alloc, "timeout")
-        .long("timeout")
-        .action(ArgAction::Set)
-        .value_parser(ValueParser::Unsigned(1, MOST_SECONDS))
-        .help(
-            "The seconds after which a peer that says nothing is lost; never where none are named",
-        )
-}
-
-fn host_arg<'a>(alloc: Global) -> Arg<'a>
-    ensures rule { rule_of result ≡ spec.host }
-    ensures local { result.global ≡ false }
-{
-    Arg::new(alloc, "host")
-        .long("host")
-        .action(ArgAction::Set)
-        .help("The server's name or address; 127.0.0.1 where none is named")
 }
