@@ -48,8 +48,8 @@ pub(crate) enum Form {
     Flag,
     /// `--NAME VALUE`.
     Value,
-    /// `--NAME NUMBER`, of a number in this range.
-    Number { least: u64, most: u64 },
+    /// `--NAME NUMBER`, of a number from the first of these to the second.
+    Number(u64, u64),
 }
 
 const SVF: Argument = Argument {
@@ -152,40 +152,28 @@ const VCD_PLAIN: Argument = Argument {
 
 const PORT: Argument = Argument {
     name: "port",
-    form: Form::Number {
-        least: LEAST_PORT,
-        most: MOST_PORT,
-    },
+    form: Form::Number(LEAST_PORT, MOST_PORT),
     required: true,
     help: "The port, 1 to 65535",
 };
 
 const AT_MOST: Argument = Argument {
     name: "at-most",
-    form: Form::Number {
-        least: 0,
-        most: MOST_BYTES,
-    },
+    form: Form::Number(0, MOST_BYTES),
     required: false,
     help: "The most bytes that are taken of one connection; 1000000000 where none are named",
 };
 
 const CONNECTIONS: Argument = Argument {
     name: "connections",
-    form: Form::Number {
-        least: 1,
-        most: MOST_CONNECTIONS,
-    },
+    form: Form::Number(1, MOST_CONNECTIONS),
     required: false,
     help: "The connections that are served, one after another; 1 where none are named",
 };
 
 const TIMEOUT: Argument = Argument {
     name: "timeout",
-    form: Form::Number {
-        least: 1,
-        most: MOST_SECONDS,
-    },
+    form: Form::Number(1, MOST_SECONDS),
     required: false,
     help: "The seconds after which a peer that says nothing is lost; never where none are named",
 };

@@ -85,7 +85,7 @@ fn arg_of<'a>(alloc: Global, argument: &Argument) -> Arg<'a>
         Form::Word => arg.action(ArgAction::Set),
         Form::Flag => arg.long(argument.name).action(ArgAction::SetTrue),
         Form::Value => arg.long(argument.name).action(ArgAction::Set),
-        Form::Number { least, most } => arg
+        Form::Number(least, most) => arg
             .long(argument.name)
             .action(ArgAction::Set)
             .value_parser(ValueParser::Unsigned(least, most)),

@@ -59,12 +59,27 @@ impl Descriptions {
         Ok(place)
     }
 
+    /// The text of the name that was read as the `k`th, from 0, alone; an empty one where there are fewer.
+    pub(crate) fn into_text(self, alloc: Global, k: usize) -> Vec<u8> {
+        let place = self.places.get(k).copied().unwrap_or(self.texts.len());
+        taken(self.texts, place).unwrap_or(Vec::new(alloc))
+    }
+
     /// The text of the name that was read as the `k`th, from 0; nothing where there are fewer.
     pub(crate) fn text(&self, k: usize) -> &[u8] {
         match self.places.get(k) {
             Some(place) => self.texts.get(*place).map_or(&[], |text| text.as_slice()),
             None => &[],
         }
+    }
+}
+
+/// What stands at this place of a list, where it is so long; the rest is let go.
+pub(crate) fn taken<T: Drop>(mut all: Vec<T>, place: usize) -> Option<T> {
+    if place < all.len() {
+        Some(all.swap_remove(place))
+    } else {
+        None
     }
 }
 

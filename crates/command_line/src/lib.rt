@@ -23,6 +23,6 @@ pub use outputs::{head_of, is_in_use};
 pub use request::{Request, Server, Serving, Task, Waves, parse};
 pub use streams::StandIns;
 pub use texts::{InputFault, read_text};
-pub use unmade::{RefusedFile, RefusedKey, Unmade};
+pub use unmade::{NoToml, RefusedFile, RefusedKey, Unmade};
 pub use usage::usage_is_read;
 pub use words::command_words;

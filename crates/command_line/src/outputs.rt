@@ -36,13 +36,19 @@ pub fn is_in_use<R: Files>(
     }
     let text = request.svf.unwrap_or(STANDARD_INPUT);
     let board = request.board.unwrap_or(text);
-    for other in [text, board, STANDARD_OUTPUT, STANDARD_ERROR] {
-        if is_called(rt, node, other)? {
-            return Ok(true);
-        }
-    }
-    for other in descriptions {
-        if is_called(rt, node, other.as_str())? {
+    Ok(
+        is_called(rt, node, text)?
+            || is_called(rt, node, board)?
+            || is_called(rt, node, STANDARD_OUTPUT)?
+            || is_called(rt, node, STANDARD_ERROR)?
+            || has_one_of(rt, node, descriptions)?,
+    )
+}
+
+/// Whether this file has one of these names.
+fn has_one_of<R: Files>(rt: &R, node: Node, names: &[String]) -> Result<bool, InputFault> {
+    for name in names {
+        if is_called(rt, node, name.as_str())? {
             return Ok(true);
         }
     }

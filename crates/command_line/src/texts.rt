@@ -12,7 +12,7 @@ const MOST_BYTES: u64 = LIMITS.text_bytes as u64 + 1;
 const MOST_DESCRIPTION_BYTES: u64 = LIMITS.description_bytes as u64 + 1;
 
 /// Why a text was not read.
-#[derive(Debug, Clone, Copy, PartialEq, Eq)]
+#[derive(Clone, Copy)]
 pub enum InputFault {
     /// It cannot be opened or read, or a board file is too long.
     Unreadable,

@@ -4,8 +4,7 @@ ghost use Rattle.std.specs.Prelude.{◌≡◌};
 use crate::statuses::or_lost;
 use board_description::Untold;
 use byte_streams::{Broken, Counted, Plain, Sink};
-use command_line::{Planned, RefusedFile, RefusedKey, Unmade};
-use jt_board::bad_toml_place;
+use command_line::{NoToml, Planned, RefusedFile, RefusedKey, Unmade};
 use output_words::Status;
 use play_explained::plain::{
     Board, BoardFault, Kind, Program, SvfFault, accept, refuse_board, refuse_file, refuse_memory,
@@ -93,12 +92,9 @@ pub(crate) fn tell_unmade<E: Sink>(
     match fault {
         Unmade::Unreadable(name) => refuse_file(name, err),
         Unmade::Refused(fault) => tell_refused(fault, explain, err),
-        Unmade::NoToml(text) if explain => tell_no_toml(alloc, text, err),
-        Unmade::NoToml(_) => refuse_board(&BoardFault::BadToml, err),
-        Unmade::RefusedKey(key) if explain => tell_key(alloc, key, err),
-        Unmade::RefusedKey(key) => refuse_board(&key.fault, err),
-        Unmade::RefusedFile(file) if explain => tell_file(alloc, file, err),
-        Unmade::RefusedFile(file) => refuse_board(&file.fault, err),
+        Unmade::NoToml(file) => tell_no_toml(file, err),
+        Unmade::RefusedKey(key) => tell_key(key, err),
+        Unmade::RefusedFile(file) => tell_file(alloc, file, err),
     }
 }
 
@@ -118,39 +114,25 @@ fn tell_refused<E: Sink>(
 }
 
 /// Tells that a text is no TOML, and where it stops being so.
-fn tell_no_toml<E: Sink>(alloc: Global, text: &[u8], err: &mut Counted<E>) -> Result<u8, Broken>
+fn tell_no_toml<E: Sink>(refused: &NoToml, err: &mut Counted<E>) -> Result<u8, Broken>
     requires { err.old.failures ≡ 0 }
 {
-    match bad_toml_place(alloc, text) {
-        Ok(place) => {
-            let status = refuse_board(&BoardFault::BadToml, err)?;
-            if let Some(place) = place {
-                refused_toml(text, place, err)?;
-            }
-            Ok(status)
-        }
-        Err(_) => refuse_memory(err),
+    let status = refuse_board(&BoardFault::BadToml, err)?;
+    if let Some(place) = refused.place {
+        refused_toml(&refused.text, place, err)?;
     }
+    Ok(status)
 }
 
 /// Tells that a key of a board file is at fault, which, and in which table.
-fn tell_key<E: Sink>(
-    alloc: Global,
-    refused: &RefusedKey,
-    err: &mut Counted<E>,
-) -> Result<u8, Broken>
+fn tell_key<E: Sink>(refused: &RefusedKey, err: &mut Counted<E>) -> Result<u8, Broken>
     requires { err.old.failures ≡ 0 }
 {
-    match refused.table(alloc) {
-        Ok(table) => {
-            let status = refuse_board(&refused.fault, err)?;
-            if let Some(table) = table {
-                refused_key(table, refused.key(), err)?;
-            }
-            Ok(status)
-        }
-        Err(_) => refuse_memory(err),
+    let status = refuse_board(&refused.fault, err)?;
+    if let Some(table) = refused.table {
+        refused_key(table, refused.key(), err)?;
     }
+    Ok(status)
 }
 
 /// Tells that the description in a file is refused, and where in it the refusal lies, or what it names.
@@ -160,11 +142,11 @@ fn tell_file<E: Sink>(alloc: Global, file: &RefusedFile, err: &mut Counted<E>) -
     let BoardFault::Bsdl(fault) = &file.fault else {
         return refuse_board(&file.fault, err);
     };
-    let text = file.text();
+    let text = file.text.as_slice();
     match place_in_description(alloc, text, fault) {
         Ok(place) => {
             let status = refuse_board(&file.fault, err)?;
-            refused_description(file.name(), text, fault, place, err)?;
+            refused_description(file.name.as_str(), text, fault, place, err)?;
             Ok(status)
         }
         Err(_) => refuse_memory(err),

@@ -140,9 +140,10 @@ fn run_unplanned(rt: &HostRuntime, alloc: Global, request: &Request<'_>) -> u8 {
 
 /// Plans a board, and does with the plan what is asked for.
 fn run_planned(rt: &HostRuntime, alloc: Global, request: &Request<'_>) -> u8 {
-    match plan_board(rt, alloc, request.board) {
+    let explain = explains(request.task);
+    match plan_board(rt, alloc, request.board, explain) {
         Ok(planned) => run_on_plan(rt, alloc, request, &planned),
-        Err(fault) => refuse_board(rt, &fault, explains(request.task)),
+        Err(fault) => refuse_board(rt, &fault, explain),
     }
 }
 

@@ -1,7 +1,8 @@
 //! A board that is served to clients.
+ghost use Rattle.std.specs.Prelude.{◌≡◌};
 
-use byte_streams::{Broken, Counted, Plain};
-use command_line::{Serving, listen, next_client};
+use byte_streams::{Broken, Counted, Plain, Sink};
+use command_line::{Link, Serving, listen, next_client};
 use output_words::Status;
 use play_explained::plain::{Board, Served, run_serve, tell_listening, tell_served, write_report};
 use std::io;
@@ -45,11 +46,21 @@ fn serve_client(
 ) -> Result<u8, Broken> {
     let mut out = Counted::new(Plain(io::writer(rt)));
     match next_client(listener, serving.timeout) {
-        Ok(link) => {
-            let mut reader = Counted::new(link.reader);
-            let mut writer = Counted::new(link.writer);
-            run_serve(board, &mut reader, &mut writer, serving.at_most, &mut out)
-        }
+        Ok(link) => serve_link(board, link, serving.at_most, &mut out),
         Err(_) => tell_served(Served::Broken, &mut out),
     }
+}
+
+/// Serves the client at the other end of a link.
+fn serve_link<O: Sink>(
+    board: &mut Board,
+    link: Link,
+    at_most: u64,
+    out: &mut Counted<O>,
+) -> Result<u8, Broken>
+    requires { out.old.failures ≡ 0 }
+{
+    let mut reader = Counted::new(link.reader);
+    let mut writer = Counted::new(link.writer);
+    run_serve(board, &mut reader, &mut writer, at_most, out)
 }
