@@ -4,7 +4,7 @@ use std::alloc::{AllocError, Global};
 use std::test::Fail;
 
 /// A device of one output with its control and one input.
-pub(crate) const K: &str = "entity K is
+const K: &str = "entity K is
   generic (PHYSICAL_PIN_MAP : string := \"DIP\");
   port (TDI, TMS, TCK : in bit; TDO : out bit;
         Q : out bit; D : in bit);

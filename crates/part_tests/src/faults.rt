@@ -30,12 +30,3 @@ fn faults_tell_their_place(rt: HostRuntime) -> Result<(), Fail> {
     assert_eq!(rt; told.as_str(), LINES);
     Ok(())
 }
-
-#[test]
-fn faults_of_boards_that_are_told_otherwise(rt: HostRuntime) -> Result<(), Fail> {
-    let unknown = BoardFault::UnknownFile(String::new(rt.alloc()));
-    let refused = BoardFault::Bsdl(BsdlFault::NoMemory);
-    let told = format!(in rt.alloc(); "{unknown}\n{refused}\n{}\n", BoardFault::NoMemory)?;
-    assert_eq!(rt; told.as_str(), "C3 UnknownFile\nC4 Bsdl\nC8 NoMemory\n");
-    Ok(())
-}

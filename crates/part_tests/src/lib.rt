@@ -1,13 +1,10 @@
-//! Tests of public calls on the parts of a play: lists of bits, texts and the steps that they become, descriptions, and
-//! what a board's snapshot shows.
+//! Tests of public calls on the parts of a play: lists of bits, texts and the steps that they become, and descriptions.
 //!
 //! They stand in a crate of their own, since a crate with tests is proved twice.
 #![tactic(auto)]
 
 #[cfg(test)]
 mod bits;
-#[cfg(test)]
-mod boards;
 #[cfg(test)]
 mod descriptions;
 #[cfg(test)]

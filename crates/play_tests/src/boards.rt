@@ -1,7 +1,6 @@
 //! What a board's snapshot shows.
-use crate::descriptions::K;
-use jt_board::{Board, Level, Snapshot};
-use jt_tap::State;
+use crate::links::CODED;
+use jt_player::{Board, BoardFault, BsdlFault, Level, Snapshot};
 use std::process::Abort;
 use std::test::Fail;
 
@@ -22,7 +21,7 @@ fn send(board: &mut Board, bytes: &[u8]) {
 
 #[test]
 fn registers_of_a_device(rt: HostRuntime) -> Result<(), Fail> {
-    let mut board = Board::from_text(rt.alloc(), BOARD, &[("k", K.as_bytes())])?;
+    let mut board = Board::from_text(rt.alloc(), BOARD, &[("k", CODED.as_bytes())])?;
     assert_registers(&rt, &mut board);
     Ok(())
 }
@@ -32,7 +31,7 @@ fn assert_registers(rt: &impl Abort, board: &mut Board) {
     assert_shown(
         rt,
         &board.snapshot(),
-        (State::Reset, "IDCODE"),
+        ("RESET", "IDCODE"),
         *b"2000",
         Level::Float,
     );
@@ -40,7 +39,7 @@ fn assert_registers(rt: &impl Abort, board: &mut Board) {
     assert_shown(
         rt,
         &board.snapshot(),
-        (State::DrPause, "EXTEST"),
+        ("DRPAUSE", "EXTEST"),
         *b"0030",
         Level::Float,
     );
@@ -48,7 +47,7 @@ fn assert_registers(rt: &impl Abort, board: &mut Board) {
     assert_shown(
         rt,
         &board.snapshot(),
-        (State::Idle, "EXTEST"),
+        ("IDLE", "EXTEST"),
         *b"0033",
         Level::One,
     );
@@ -59,7 +58,7 @@ fn assert_registers(rt: &impl Abort, board: &mut Board) {
 fn assert_shown(
     rt: &impl Abort,
     snapshot: &Snapshot<'_>,
-    at: (State, &str),
+    at: (&str, &str),
     digits: [u8; 4],
     level: Level,
 ) {
@@ -67,7 +66,7 @@ fn assert_shown(
     assert!(rt; !snapshot.tck() && !snapshot.trst());
     assert_eq!(rt; (snapshot.name(0), snapshot.bypass(0)), ("U1", false));
     assert_eq!(rt;
-        (snapshot.state(0), snapshot.instruction(0)),
+        (snapshot.state(0).word(), snapshot.instruction(0)),
         (at.0, Some(at.1))
     );
     let shown = [
@@ -109,4 +108,13 @@ fn assert_starts(rt: &impl Abort, board: &mut Board) {
     assert_eq!(rt; starts(rt, board), (2, 2));
     send(board, b"2626040415153726040");
     assert_eq!(rt; starts(rt, board), (3, 3));
+}
+
+#[test]
+fn faults_of_boards_that_are_told_otherwise(rt: HostRuntime) -> Result<(), Fail> {
+    let unknown = BoardFault::UnknownFile(String::new(rt.alloc()));
+    let refused = BoardFault::Bsdl(BsdlFault::NoMemory);
+    let told = format!(in rt.alloc(); "{unknown}\n{refused}\n{}\n", BoardFault::NoMemory)?;
+    assert_eq!(rt; told.as_str(), "C3 UnknownFile\nC4 Bsdl\nC8 NoMemory\n");
+    Ok(())
 }
