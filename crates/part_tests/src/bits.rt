@@ -1,5 +1,6 @@
 //! Lists of bits: what no clause says of a shift, and the calls that no play makes.
 use bitbang_protocol::{Cycle, cycle_bytes};
+use chip_registers::{Plain, Register};
 use jt_bits::{Bits, first_bad};
 use std::alloc::{AllocError, Global};
 use std::process::Abort;
@@ -102,4 +103,15 @@ fn a_cycle_is_read_while_the_clock_is_low(rt: HostRuntime) {
         read: true,
     };
     assert_eq!(rt; cycle_bytes(cycle).as_slice(), b"1R5".as_slice());
+}
+
+/// A register without pins: a bit is shifted in at its far end.
+#[test]
+fn a_plain_register_is_shifted(rt: HostRuntime) -> Result<(), Fail> {
+    let mut register = Plain::new(rt.alloc(), 3)?;
+    assert!(rt; register.len() == 3);
+    assert!(rt; !register.shift_in(true));
+    register.update();
+    assert_eq!(rt; register.word_at(0), 4);
+    Ok(())
 }

@@ -1,7 +1,5 @@
 //! The lines of faults that no clause says and the program does not print.
-use bsdl::BsdlFault;
 use jt_bits::HexFault;
-use jt_board::BoardFault;
 use std::test::Fail;
 use svf_lex::LexFault;
 use svf_parse::Code;
