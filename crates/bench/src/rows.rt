@@ -15,6 +15,12 @@ pub struct Row {
     pub check: u64,
 }
 
+/// A call that is measured, with what it is given.
+pub trait Round {
+    /// Makes the call as often as a round does.
+    fn round(&mut self) -> Result<Row, AllocError>;
+}
+
 /// What a row counts.
 #[derive(Drop, Clone, Copy)]
 pub enum Unit {
@@ -44,20 +50,18 @@ pub fn digest(bytes: &[u8]) -> u64 {
 
 /// Prints a row's name and unit, which C's row has too, its least time of a round in nanoseconds, its count and its
 /// check.
-pub fn print_row<F: FnMut() -> Result<Row, AllocError>>(
+pub fn print_row<R: Round>(
     rt: &HostRuntime,
     name: &str,
     unit: Unit,
-    mut round: F,
-) -> io::Result<()>
-    requires { (f : _) → F.pre f }
-{
+    call: &mut R,
+) -> io::Result<()> {
     let mut least = u64::MAX;
     let mut count = 0;
     let mut check = 0;
     for _ in 0..ROUNDS {
         let start = Instant::now(rt)?;
-        let row = round()?;
+        let row = call.round()?;
         let time = u64::try_from(start.elapsed(rt)?.as_nanos()).unwrap_or(u64::MAX);
         least = least.min(time);
         count = row.count;

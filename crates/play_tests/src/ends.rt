@@ -1,5 +1,5 @@
-//! Ends that bytes come from and go to. What no clause says: which call of a faulty reader or writer is the first that
-//! counts, and that the calls succeed.
+//! Ends that bytes come from and go to. What no clause says: that the calls succeed, how many calls `Plain` makes, and
+//! what sockets do.
 ghost use Rattle.std.specs.Prelude.{⊤};
 
 use byte_streams::{Both, Broken, Counted, End, Plain, Sink, Source, put_all};
@@ -17,40 +17,35 @@ enum Call {
     Fails,
 }
 
-/// A reader and writer whose next four calls are set beforehand, and whose later ones fail. It gives zeroes, and
-/// keeps what it takes.
+/// A reader and writer whose first calls are set beforehand, and whose later ones fail. It gives zeroes, and counts its
+/// calls.
 #[derive(Drop)]
 struct Faulty {
-    calls: [Call; 4],
+    calls: &'static [Call],
     made: usize,
-    taken: Vec<u8>,
 }
 
 impl Faulty {
-    fn new(alloc: Global, calls: [Call; 4]) -> Self {
-        Faulty {
-            calls,
-            made: 0,
-            taken: Vec::new(alloc),
-        }
+    fn new(calls: &'static [Call]) -> Self {
+        Faulty { calls, made: 0 }
     }
 
-    fn next_call(&mut self) -> Call {
-        let call = if self.made < 4 {
-            self.calls[self.made]
-        } else {
-            Call::Fails
-        };
+    /// How many bytes the next call would move; `None` where it fails.
+    fn next_call(&mut self) -> Option<usize> {
+        let call = self.calls.get(self.made).copied();
         self.made = self.made.saturating_add(1);
-        call
+        match call {
+            Some(Call::Moves(n)) => Some(n),
+            _ => None,
+        }
     }
 }
 
 impl Read for Faulty {
     fn read(&mut self, buffer: &mut [u8]) -> io::Result<usize> {
         match self.next_call() {
-            Call::Moves(n) => Ok(n.min(buffer.len())),
-            Call::Fails => Err(Error::from(ErrorKind::ConnectionReset)),
+            Some(n) => Ok(n.min(buffer.len())),
+            None => Err(Error::from(ErrorKind::ConnectionReset)),
         }
     }
 }
@@ -66,19 +61,15 @@ impl Source for Faulty {
 impl Write for Faulty {
     fn write(&mut self, piece: &[u8]) -> io::Result<usize> {
         match self.next_call() {
-            Call::Moves(n) => {
-                let count = n.min(piece.len());
-                self.taken.extend_from_slice(&piece[..count])?;
-                Ok(count)
-            }
-            Call::Fails => Err(Error::from(ErrorKind::BrokenPipe)),
+            Some(n) => Ok(n.min(piece.len())),
+            None => Err(Error::from(ErrorKind::BrokenPipe)),
         }
     }
 
     fn flush(&mut self) -> io::Result<()> {
         match self.next_call() {
-            Call::Moves(_) => Ok(()),
-            Call::Fails => Err(Error::from(ErrorKind::BrokenPipe)),
+            Some(_) => Ok(()),
+            None => Err(Error::from(ErrorKind::BrokenPipe)),
         }
     }
 }
@@ -97,137 +88,81 @@ impl Sink for Faulty {
     }
 }
 
-/// How each call goes, the piece, and how many losses there are then.
-const WRITES: &[(Call, &[u8], u32)] = &[
-    (Call::Moves(2), b"ab", 0),
-    (Call::Moves(1), b"ab", 0),
-    (Call::Moves(0), b"ab", 1),
-    (Call::Fails, b"ab", 1),
-    (Call::Fails, b"", 0),
+/// How the reads of a byte go, and behind each of them whether the connection is lost, and by an end of input.
+const READS: &[(&[Call], &[(u32, bool)])] = &[
+    (
+        &[Call::Moves(1), Call::Moves(0), Call::Fails, Call::Moves(1)],
+        &[(0, false), (1, true), (1, true), (1, true)],
+    ),
+    (
+        &[Call::Moves(1), Call::Fails, Call::Moves(0), Call::Moves(1)],
+        &[(0, false), (1, false), (1, false), (1, false)],
+    ),
 ];
 
 #[test]
-fn a_write_counts_where_it_fails_or_takes_none_of_a_piece(rt: HostRuntime) {
-    for (call, piece, losses) in WRITES {
-        assert_losses(&rt, rt.alloc(), *call, piece, *losses);
-    }
-}
-
-/// Asserts how many losses there are after one write whose call goes so, and after a second.
-fn assert_losses(rt: &impl Abort, alloc: Global, call: Call, piece: &[u8], losses: u32) {
-    let mut out = Counted::new(Faulty::new(alloc, [call; 4]));
-    let first = out.put(piece);
-    assert_eq!(rt; out.failures(), losses);
-    let second = out.write(piece);
-    assert_eq!(rt; first.is_ok(), second.is_ok());
-    assert_eq!(rt; out.failures(), losses);
-    assert!(rt; !out.at_end());
-}
-
-#[test]
-fn a_flush_counts_where_it_fails(rt: HostRuntime) {
-    let calls = [Call::Moves(0), Call::Fails, Call::Moves(0), Call::Fails];
-    let mut out = Counted::new(Faulty::new(rt.alloc(), calls));
-    assert!(rt; out.put_through().is_ok());
-    assert_eq!(rt; out.failures(), 0);
-    assert!(rt; out.flush().is_err());
-    assert!(rt; out.flush().is_ok());
-    assert_eq!(rt; out.failures(), 1);
-    assert!(rt; !out.at_end());
-}
-
-#[test]
 fn at_end_is_whether_the_first_loss_was_the_end_of_input(rt: HostRuntime) {
-    let end_first = [Call::Moves(1), Call::Moves(0), Call::Fails, Call::Moves(1)];
-    let told = [(0, false), (1, true), (1, true), (1, true)];
-    assert_heard(&rt, rt.alloc(), end_first, &told);
-    let failed_first = [Call::Moves(1), Call::Fails, Call::Moves(0), Call::Moves(1)];
-    let told = [(0, false), (1, false), (1, false), (1, false)];
-    assert_heard(&rt, rt.alloc(), failed_first, &told);
-    assert_read(&rt, rt.alloc(), failed_first, &told);
-}
-
-/// Asserts the losses after each of some calls of `hear`, and whether the first was the end of input.
-fn assert_heard(rt: &impl Abort, alloc: Global, calls: [Call; 4], told: &[(u32, bool)]) {
-    let mut byte = [0];
-    let mut input = Counted::new(Faulty::new(alloc, calls));
-    for (failures, at_end) in told {
-        let _ = input.hear(&mut byte);
-        assert_eq!(rt; input.failures(), *failures);
-        assert_eq!(rt; input.at_end(), *at_end);
+    for (calls, told) in READS {
+        let mut byte = [0];
+        let mut input = Counted::new(Faulty::new(calls));
+        for wanted in *told {
+            let _ = input.hear(&mut byte);
+            assert_eq!(rt; (input.failures(), input.at_end()), *wanted);
+        }
     }
 }
 
-/// The same of calls of `read`.
-fn assert_read(rt: &impl Abort, alloc: Global, calls: [Call; 4], told: &[(u32, bool)]) {
-    let mut byte = [0];
-    let mut input = Counted::new(Faulty::new(alloc, calls));
-    for (failures, at_end) in told {
-        let _ = input.read(&mut byte);
-        assert_eq!(rt; input.failures(), *failures);
-        assert_eq!(rt; input.at_end(), *at_end);
-    }
-}
-
-#[test]
-fn a_read_into_no_room_counts_nothing(rt: HostRuntime) {
-    let calls = [Call::Moves(0), Call::Fails, Call::Moves(0), Call::Fails];
-    let mut input = Counted::new(Faulty::new(rt.alloc(), calls));
-    for is_ok in [true, false] {
-        assert_eq!(rt; input.hear(&mut []).is_ok(), is_ok);
-        assert_eq!(rt; input.failures(), 0);
-        assert!(rt; !input.at_end());
-    }
-}
-
-/// How the calls go, what is taken of "abc", and whether that is all.
-const PIECES: &[([Call; 4], &[u8], bool)] = &[
+/// How the calls go, of which one is for each piece that is written of "abc" and one for the flush behind it, how many
+/// are made, and whether all is written.
+const PIECES: &[(&[Call], usize, bool)] = &[
     (
-        [Call::Moves(1), Call::Moves(1), Call::Moves(1), Call::Fails],
-        b"abc",
+        &[
+            Call::Moves(1),
+            Call::Moves(1),
+            Call::Moves(1),
+            Call::Moves(0),
+        ],
+        4,
         true,
     ),
+    (&[Call::Moves(2), Call::Moves(9), Call::Moves(0)], 3, true),
     (
-        [Call::Moves(2), Call::Moves(9), Call::Fails, Call::Fails],
-        b"abc",
-        true,
-    ),
-    (
-        [Call::Moves(1), Call::Moves(1), Call::Fails, Call::Moves(1)],
-        b"ab",
+        &[Call::Moves(1), Call::Moves(1), Call::Fails, Call::Moves(1)],
+        3,
         false,
     ),
     (
-        [
+        &[
             Call::Moves(1),
             Call::Moves(0),
             Call::Moves(1),
             Call::Moves(1),
         ],
-        b"a",
+        2,
         false,
     ),
     (
-        [Call::Fails, Call::Moves(1), Call::Moves(1), Call::Moves(1)],
-        b"",
+        &[Call::Fails, Call::Moves(1), Call::Moves(1), Call::Moves(1)],
+        1,
         false,
     ),
 ];
 
+/// `Plain` promises nothing of a call's relation, so its calls are counted: each write and each flush is one of the
+/// writer within, and the first loss is the last of them.
 #[test]
-fn put_all_stops_at_the_first_loss(rt: HostRuntime) {
-    for (calls, taken, is_whole) in PIECES {
-        assert_taken(&rt, rt.alloc(), *calls, taken, *is_whole);
+fn plain_makes_one_call_of_each(rt: HostRuntime) {
+    for (calls, made, is_whole) in PIECES {
+        let mut out = Counted::new(Plain(Faulty::new(calls)));
+        let written = put_all(&mut out, b"abc");
+        assert_eq!(rt; written.is_ok(), *is_whole);
+        if written.is_ok() {
+            assert!(rt; out.put_through().is_ok());
+        }
+        assert_eq!(rt; out.failures(), u32::from(!*is_whole));
+        let Plain(inner) = out.into_inner();
+        assert_eq!(rt; inner.made, *made);
     }
-}
-
-/// Asserts what is taken of "abc" by these calls.
-fn assert_taken(rt: &impl Abort, alloc: Global, calls: [Call; 4], taken: &[u8], is_whole: bool) {
-    let mut out = Counted::new(Faulty::new(alloc, calls));
-    let outcome = put_all(&mut out, b"abc");
-    assert_eq!(rt; outcome, if is_whole { Ok(()) } else { Err(Broken) });
-    assert_eq!(rt; out.failures(), u32::from(!is_whole));
-    assert_eq!(rt; out.into_inner().taken.as_slice(), taken);
 }
 
 #[test]
@@ -261,20 +196,6 @@ fn plain_hands_on_what_std_reads_and_writes(rt: HostRuntime) {
     let mut input = Counted::new(Plain(text));
     assert_eq!(rt; input.hear(&mut byte).ok(), Some(1));
     assert_eq!(rt; byte[0], b'a');
-}
-
-/// `Plain` promises nothing of a call's relation, so its calls are counted: each write and each flush is one of the
-/// writer within.
-#[test]
-fn plain_makes_one_call_of_each(rt: HostRuntime) {
-    let one = Call::Moves(1);
-    let mut out = Counted::new(Plain(Faulty::new(rt.alloc(), [one, one, one, one])));
-    assert_eq!(rt; put_all(&mut out, b"abc"), Ok(()));
-    assert!(rt; out.put_through().is_ok());
-    assert_eq!(rt; out.failures(), 0);
-    let Plain(inner) = out.into_inner();
-    assert_eq!(rt; inner.made, 4);
-    assert_eq!(rt; inner.taken.as_slice(), b"abc".as_slice());
 }
 
 /// Writes a byte at one end, and reads it at the other.

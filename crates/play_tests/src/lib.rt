@@ -1,11 +1,10 @@
-//! Tests of public calls: ends of bytes, and plays: at once, by bytes and answers, over pipes, and as the program runs
-//! them.
+//! Tests of public calls: boards, ends of bytes, and plays: by bytes and answers, over pipes and links, and at once.
 //!
 //! They stand in a crate of their own, since a crate with tests is proved twice.
 #![tactic(auto)]
 
 #[cfg(test)]
-mod all_failures;
+mod boards;
 #[cfg(test)]
 mod ends;
 #[cfg(test)]
@@ -14,7 +13,5 @@ mod links;
 mod pipes;
 #[cfg(test)]
 mod players;
-#[cfg(test)]
-mod plays_at_once;
 #[cfg(test)]
 mod runs;

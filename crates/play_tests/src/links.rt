@@ -1,9 +1,7 @@
-//! Plays over readers and writers that are lost at each byte, and boards that are served.
+//! Plays over both ends of a link, and what serving leaves that no clause says.
 
 use crate::players::player_of;
-use jt_player::{
-    Board, Both, Counted, Ending, Part, Served, Stop, loop_over, play_over, serve_over,
-};
+use jt_player::{Board, Both, Counted, Ending, Served, Stop, loop_over, serve_over};
 use std::alloc::{AllocError, Global};
 use std::process::Abort;
 use std::test::Fail;
@@ -14,181 +12,6 @@ const SCAN: &[u8] = b"SIR 2 TDI (3) TDO (1);";
 const SENT: &[u8] = b"r2626262626004262604041R53R726040Q";
 
 const ANSWERS: &[u8] = b"10";
-
-/// Plays the scan: the writer is lost after `k` bytes, of which it takes `piece` a call. Answers the ending and the
-/// bytes that went out.
-fn played(
-    alloc: Global,
-    k: usize,
-    piece: usize,
-    answers: &[u8],
-) -> Result<(Ending, Vec<u8>), Fail> {
-    let mut writer = Counted::new(Stop::new(Vec::new(alloc), k, piece.max(1)));
-    let mut reader = Counted::new(answers);
-    let player = player_of(alloc, SCAN)?;
-    if !player.is_fresh() {
-        return Err("a used player")?;
-    }
-    let ending = play_over(&mut reader, &mut writer, player);
-    let stop = writer.into_inner();
-    Ok((ending, stop.inner))
-}
-
-/// Serves these bytes to a board, `max_bytes` of them at most. Answers how that ended and what the board wrote.
-fn served(alloc: Global, board: &mut Board, bytes: &[u8], max_bytes: u64) -> (Served, Vec<u8>) {
-    let mut writer = Counted::new(Vec::new(alloc));
-    let mut reader = Counted::new(bytes);
-    let served = serve_over(&mut reader, &mut writer, board, max_bytes);
-    (served, writer.into_inner())
-}
-
-/// The command that a loss after so many bytes names: the opening's 12, the scan's 21, and `Q`.
-fn in_work(k: usize) -> usize {
-    match k {
-        0..12 => 0,
-        12..33 => 1,
-        _ => 2,
-    }
-}
-
-#[test]
-fn a_loss_at_each_byte_names_the_command_and_leaves_a_board_that_plays_on(
-    rt: HostRuntime,
-) -> Result<(), Fail> {
-    for k in 0..35 {
-        for piece in &[1, 3, 64][..] {
-            assert_loss(&rt, rt.alloc(), k, *piece)?;
-        }
-    }
-    Ok(())
-}
-
-/// Asserts how a play ends whose writer is lost after `k` bytes, and what the board that took these does then.
-fn assert_loss(rt: &impl Abort, alloc: Global, k: usize, piece: usize) -> Result<(), Fail> {
-    let (ending, bytes) = played(alloc, k, piece, ANSWERS)?;
-    let (wanted, left) = if k < SENT.len() {
-        let command = in_work(k);
-        (Ending::Lost { command }, Served::Closed)
-    } else {
-        (Ending::Pass, Served::Quit)
-    };
-    assert_eq!(rt; ending, wanted);
-    assert_eq!(rt; bytes.as_slice(), &SENT[..k.min(SENT.len())]);
-    let mut board = Board::bare(alloc, 1)?;
-    let (served_by, _) = served(alloc, &mut board, &bytes, 1000);
-    assert_eq!(rt; served_by, left);
-    let (served_by, answers) = served(alloc, &mut board, SENT, 1000);
-    assert_eq!(rt; served_by, Served::Quit);
-    assert_eq!(rt; answers.as_slice(), ANSWERS);
-    assert_passes(rt, alloc, piece, &answers)
-}
-
-/// Asserts that the scan passes by these answers.
-fn assert_passes(rt: &impl Abort, alloc: Global, piece: usize, answers: &[u8]) -> Result<(), Fail> {
-    let (ending, _) = played(alloc, 1000, piece, answers)?;
-    assert_eq!(rt; ending, Ending::Pass);
-    Ok(())
-}
-
-/// What answers the scan, how its play ends then, and how many bytes it sends.
-const ANSWERED: &[(&[u8], Ending, usize)] = &[
-    (b"", Ending::Lost { command: 1 }, 33),
-    (b"1", Ending::Lost { command: 1 }, 33),
-    (
-        b"00",
-        Ending::Fail {
-            command: 1,
-            part: Part::Data,
-            bit: 0,
-        },
-        34,
-    ),
-    (
-        b"11",
-        Ending::Fail {
-            command: 1,
-            part: Part::Data,
-            bit: 1,
-        },
-        34,
-    ),
-    (
-        b"1x",
-        Ending::BadAnswer {
-            command: 1,
-            byte: b'x',
-        },
-        33,
-    ),
-];
-
-#[test]
-fn what_answers_a_play_is_told(rt: HostRuntime) -> Result<(), Fail> {
-    for (answers, wanted, count) in ANSWERED {
-        let (ending, bytes) = played(rt.alloc(), 1000, 64, answers)?;
-        assert_eq!(rt; ending, *wanted);
-        assert!(rt; SENT.starts_with(&bytes));
-        assert_eq!(rt; bytes.len(), *count);
-    }
-    Ok(())
-}
-
-/// Bytes to a board, how many of them it takes at most, how serving it ends, and what it answers.
-const SERVED: &[(&[u8], u64, Served, &[u8])] = &[
-    (SENT, 1000, Served::Quit, ANSWERS),
-    (b"R", 1000, Served::Closed, b"1"),
-    (b"RZR", 1000, Served::Refused(b'Z'), b"1"),
-    (b"Z", 1000, Served::Refused(b'Z'), b""),
-    (SENT, 0, Served::Bound, b""),
-    (SENT, 12, Served::Bound, b""),
-];
-
-#[test]
-fn how_serving_ends_is_told(rt: HostRuntime) -> Result<(), Fail> {
-    for (bytes, max_bytes, wanted, answers) in SERVED {
-        let mut board = Board::bare(rt.alloc(), 1)?;
-        let (ended, wrote) = served(rt.alloc(), &mut board, bytes, *max_bytes);
-        assert_eq!(rt; ended, *wanted);
-        assert_eq!(rt; wrote.as_slice(), *answers);
-    }
-    Ok(())
-}
-
-#[test]
-fn a_read_or_a_write_that_fails_breaks_serving(rt: HostRuntime) -> Result<(), Fail> {
-    let mut board = Board::bare(rt.alloc(), 1)?;
-    let mut writer = Counted::new(Vec::new(rt.alloc()));
-    let mut reader = Counted::new(Stop::new(SENT, 1, 1));
-    assert_eq!(rt;
-        serve_over(&mut reader, &mut writer, &mut board, 1000),
-        Served::Broken
-    );
-    assert_eq!(rt; writer.into_inner().len(), 0);
-    let mut writer = Counted::new(Stop::new(Vec::new(rt.alloc()), 1, 1));
-    let mut reader = Counted::new(SENT);
-    assert_eq!(rt;
-        serve_over(&mut reader, &mut writer, &mut board, 1000),
-        Served::Broken
-    );
-    let stop = writer.into_inner();
-    assert_eq!(rt; stop.inner.as_slice(), &ANSWERS[..1]);
-    Ok(())
-}
-
-#[test]
-fn a_bound_is_kept_and_the_rest_can_be_taken_later(rt: HostRuntime) -> Result<(), Fail> {
-    let mut board = Board::bare(rt.alloc(), 1)?;
-    let mut writer = Counted::new(Vec::new(rt.alloc()));
-    let mut reader = Counted::new(SENT);
-    assert_eq!(rt;
-        serve_over(&mut reader, &mut writer, &mut board, 12),
-        Served::Bound
-    );
-    let (ended, wrote) = served(rt.alloc(), &mut board, reader.into_inner(), 22);
-    assert_eq!(rt; ended, Served::Quit);
-    assert_eq!(rt; wrote.as_slice(), ANSWERS);
-    Ok(())
-}
 
 /// Plays the scan over two ends of memory: the board's end holds `down`, the player's `up`, and the board's end is lost
 /// after `k` bytes that it writes.
@@ -243,16 +66,18 @@ fn a_loop_shows_what_its_ends_did_not_write(rt: HostRuntime) -> Result<(), Fail>
     Ok(())
 }
 
-/// A device with an identification of 32 bits, which a reset selects.
-const CODED: &str = "entity K is port (TDI, TMS, TCK : in bit; TDO : out bit; D : in bit);
+/// A device with an identification of 32 bits, which a reset selects; one output with its control, and one input.
+pub(crate) const CODED: &str =
+    "entity K is port (TDI, TMS, TCK : in bit; TDO, Q : out bit; D : in bit);
   attribute TAP_SCAN_IN of TDI : signal is true; attribute TAP_SCAN_MODE of TMS : signal is true;
   attribute TAP_SCAN_OUT of TDO : signal is true; attribute TAP_SCAN_CLOCK of TCK : signal is (1.0e6, BOTH);
   attribute INSTRUCTION_LENGTH of K : entity is 2;
   attribute INSTRUCTION_OPCODE of K : entity is \"BYPASS (11), EXTEST (00), SAMPLE (01), IDCODE (10)\";
   attribute INSTRUCTION_CAPTURE of K : entity is \"01\";
   attribute IDCODE_REGISTER of K : entity is \"00000001001000110100010101100111\";
-  attribute BOUNDARY_LENGTH of K : entity is 1;
-  attribute BOUNDARY_REGISTER of K : entity is \"0 (BC_1, D, input, X)\";
+  attribute BOUNDARY_LENGTH of K : entity is 3;
+  attribute BOUNDARY_REGISTER of K : entity is
+    \"0 (BC_1, Q, output3, X, 1, 0, Z), 1 (BC_1, *, control, 0), 2 (BC_1, D, input, X)\";
 end;";
 
 /// Two such devices.

@@ -1,5 +1,5 @@
 use crate::players::player_of;
-use jt_player::{Board, Ending, Event, Joined, Part, Standing};
+use jt_player::{Board, Ending, Event, Joined, Standing};
 use std::alloc::Global;
 use std::process::Abort;
 use std::test::Fail;
@@ -46,48 +46,6 @@ fn byte_by_byte(rt: HostRuntime) -> Result<(), Fail> {
     Ok(())
 }
 
-/// A scan of more bits than answers may be owed, of which bit 2 is to come out otherwise, over the smallest pipes, over
-/// those in which bytes stand together, and over the largest.
-#[test]
-fn a_long_scan_over_pipes_of_each_room(rt: HostRuntime) -> Result<(), Fail> {
-    for room in &[1, 2, 7, 8, 64, 65_536][..] {
-        let board = Board::bare(rt.alloc(), 1)?;
-        let mut joined = joined(&rt, rt.alloc(), b"SDR 300 TDI (1) TDO (6);", board, *room)?;
-        let ending = Ending::Fail {
-            command: 1,
-            part: Part::Data,
-            bit: 2,
-        };
-        assert_eq!(rt; joined.finish(), ending);
-    }
-    Ok(())
-}
-
-#[test]
-fn a_loss_before_anything(rt: HostRuntime) -> Result<(), Fail> {
-    let board = Board::bare(rt.alloc(), 1)?;
-    let mut joined = joined(&rt, rt.alloc(), SCAN, board, 64)?;
-    let lost = Standing {
-        moved: 0,
-        ended: Some(Ending::Lost { command: 0 }),
-        lost: true,
-    };
-    assert_eq!(rt; joined.run(&[Event::Lose, Event::Put(5)]), lost);
-    assert_eq!(rt; joined.finish(), Ending::Lost { command: 0 });
-    Ok(())
-}
-
-#[test]
-fn the_board_is_ahead_of_the_player(rt: HostRuntime) -> Result<(), Fail> {
-    let board = Board::bare(rt.alloc(), 1)?;
-    let mut joined = joined(&rt, rt.alloc(), SCAN, board, 64)?;
-    assert_eq!(rt; joined.run(&[Event::Put(64)]).moved, 1);
-    assert!(rt; !joined.board().snapshot().tck());
-    assert_eq!(rt; joined.run(&[Event::Serve(3)]).moved, 1);
-    assert!(rt; joined.board().snapshot().tck());
-    Ok(())
-}
-
 /// A loss once the first answer was taken, and the same program again on the board that it left.
 #[test]
 fn a_loss_within_a_scan(rt: HostRuntime) -> Result<(), Fail> {
@@ -103,15 +61,5 @@ fn a_loss_within_a_scan(rt: HostRuntime) -> Result<(), Fail> {
     assert!(rt; standing.lost);
     let mut again = joined(&rt, rt.alloc(), SCAN, first.into_board(), 64)?;
     assert_eq!(rt; again.finish(), Ending::Pass);
-    Ok(())
-}
-
-/// All is sent, and lost before the board takes `Q`.
-#[test]
-fn a_loss_before_the_end(rt: HostRuntime) -> Result<(), Fail> {
-    let board = Board::bare(rt.alloc(), 1)?;
-    let mut joined = joined(&rt, rt.alloc(), b"", board, 64)?;
-    let standing = joined.run(&[Event::Put(64), Event::Serve(12), Event::Lose]);
-    assert_eq!(rt; standing.ended, Some(Ending::Lost { command: 1 }));
     Ok(())
 }

@@ -81,3 +81,7 @@ row_cut_100 = refl
 pub row_hash : text_says text.hash ≡ expected.hash
 unfolding cut chain further items attribute_of past_closing past_semi digits_on
 row_hash = refl
+
+pub row_whole : text_says text.whole ≡ expected.whole
+unfolding cut chain further items attribute_of past_closing past_semi digits_on
+row_whole = refl

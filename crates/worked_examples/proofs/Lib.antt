@@ -1,5 +1,6 @@
 pub mod SettingsCompute
 pub mod NumbersCompute
+pub mod WordsCompute
 pub mod PlaysCompute
 pub mod SingleCompute
 pub mod FollowingCompute

@@ -52,5 +52,17 @@ rows_compute = record {
   beyond_64_bits = refl;
   slowest = refl;
   parts = refl;
+  mask_and_tdo = refl;
+  header_and_trailer = refl;
+  other_headers = refl;
+  unwritten = refl;
+  held_in_reset = refl;
+  leaves_reset = refl;
+  own_refusal = refl;
+  longer_than_any = refl;
+  gap = refl;
+  by_default = refl;
+  most_at_once = refl;
+  periods = refl;
   judged = refl;
 }

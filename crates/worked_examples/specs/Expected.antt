@@ -1,12 +1,12 @@
 -- What the texts of the rows say, by an independent reader.
-use Rattle.std.specs.Prelude.{true, false, [], ◌∷◌, codes, Some, None, Result, Ok, Err}
+use Rattle.std.specs.Prelude.{true, false, [], ◌∷◌, codes, replicate, Some, None, Result, Ok, Err}
 use Rattle.bsdl_values.specs.declared.Attribute.TheVariants.{TapScanClock}
-use Rattle.bsdl_device.specs.declared.PortMode.TheVariants.{In, Out}
-use Rattle.bsdl_device.specs.declared.Function.TheVariants.{Input, Output3}
-use Rattle.bsdl_device.specs.declared.Function.TheVariants.{Control, Internal}
-use Rattle.bsdl_device.specs.declared.Disabled.TheVariants.{Z}
+use Rattle.bsdl_device.specs.declared.PortMode.TheVariants.{In, Out, InOut, Buffer, Linkage}
+use Rattle.bsdl_device.specs.declared.Function.TheVariants.{Input, Output2, Output3, Bidir, Clock}
+use Rattle.bsdl_device.specs.declared.Function.TheVariants.{Control, ControlR, Internal, ObserveOnly}
+use Rattle.bsdl_device.specs.declared.Disabled.TheVariants.{Z, Weak1, Keeper}
 use Rattle.bsdl_device.specs.Device.{Device}
-use Rattle.bsdl_device.specs.declared.Place.TheVariants.{AtUser}
+use Rattle.bsdl_device.specs.declared.Place.TheVariants.{AtBypass, AtUser}
 use Rattle.bsdl_description.specs.Describing.{Refusal, bad_token, bad_form, missing, twice, bad_length, bad_capture}
 use Rattle.bsdl_description.specs.Describing.{bad_id, bad_cell}
 
@@ -198,3 +198,51 @@ cut_100 = Err (bad_form 98)
 
 abbrev pub hash : Result Device Refusal
 hash = Err (bad_token 143)
+
+abbrev pub whole : Result Device Refusal
+whole = Ok (record {
+  ports = (record { name = codes "TDI"; index = None; mode = In; is_tap = true }
+      ∷ record { name = codes "TMS"; index = None; mode = In; is_tap = true }
+      ∷ record { name = codes "TCK"; index = None; mode = In; is_tap = true }
+      ∷ record { name = codes "TRST"; index = None; mode = In; is_tap = false }
+      ∷ record { name = codes "TDO"; index = None; mode = Out; is_tap = true }
+      ∷ record { name = codes "A"; index = Some 4; mode = InOut; is_tap = false }
+      ∷ record { name = codes "A"; index = Some 5; mode = InOut; is_tap = false }
+      ∷ record { name = codes "B"; index = Some 0; mode = Buffer; is_tap = false }
+      ∷ record { name = codes "B"; index = Some 1; mode = Buffer; is_tap = false }
+      ∷ record { name = codes "VCC"; index = None; mode = Linkage; is_tap = false } ∷ []);
+  instruction_length = 3;
+  opcodes = (record { name = codes "BYPASS"; patterns = ((Some true ∷ Some true ∷ Some true ∷ []) ∷ (Some true ∷ None ∷ Some true ∷ []) ∷ []) }
+      ∷ record { name = codes "EXTEST"; patterns = ((Some false ∷ Some false ∷ Some false ∷ []) ∷ []) }
+      ∷ record { name = codes "IDCODE"; patterns = ((Some true ∷ Some false ∷ Some false ∷ []) ∷ []) }
+      ∷ record { name = codes "LOAD"; patterns = ((Some false ∷ Some true ∷ Some false ∷ []) ∷ []) }
+      ∷ record { name = codes "LOOK"; patterns = ((Some true ∷ Some true ∷ Some false ∷ []) ∷ []) }
+      ∷ record { name = codes "TWIN"; patterns = ((Some false ∷ Some false ∷ Some true ∷ []) ∷ []) } ∷ []);
+  capture = (true ∷ false ∷ false ∷ []);
+  idcode = (Some (true ∷ replicate 31 false));
+  usercode = (Some (replicate 32 true));
+  cells = (record {
+    function = Bidir;
+    port = (Some 5);
+    control = (Some (record { cell = 5; disabling = true; leaves = Weak1 }));
+  }
+      ∷ record { function = ObserveOnly; port = (Some 6); control = None }
+      ∷ record { function = Output2; port = (Some 8); control = None }
+      ∷ record {
+        function = Output3;
+        port = (Some 7);
+        control = (Some (record { cell = 5; disabling = false; leaves = Keeper }));
+      }
+      ∷ record { function = Clock; port = (Some 9); control = None }
+      ∷ record { function = ControlR; port = None; control = None } ∷ []);
+  private_names = (codes "LOOK" ∷ []);
+  accesses = (record {
+    instruction = codes "LOAD";
+    place = AtUser 0;
+    captures =
+        (Some (true ∷ false ∷ false ∷ true ∷ []));
+  }
+      ∷ record { instruction = codes "TWIN"; place = AtBypass; captures = None } ∷ []);
+  users = (4 ∷ []);
+  has_trst = false;
+})

@@ -1,6 +1,9 @@
 pub mod Flat
 pub mod SettingsRows
 pub mod NumberRows
+pub mod WordRows
+pub mod LexRows
+pub mod StatementRows
 pub mod PlaySamples
 pub mod Agree
 pub mod Plays

@@ -1,5 +1,5 @@
 -- Worked programs: what each list of statements resolves to.
-use Rattle.std.specs.Prelude.{◌≡◌, ℕ, Bool, true, false, List, [], ◌∷◌, map, replicate, codes, Option, Some, None}
+use Rattle.std.specs.Prelude.{◌≡◌, ℕ, Bool, true, false, List, [], ◌∷◌, ◌++◌, map, replicate, codes, Option, Some, None}
 use Rattle.std.specs.Prelude.{Result, Ok, Err}
 use Rattle.jt_limits.specs.Limits.{earlier_limits}
 use Rattle.jt_tap.specs.declared.Column.TheVariants.{Dr, Ir}
@@ -15,9 +15,11 @@ use Rattle.svf_parse.specs.Judging as said
 use Rattle.svf_parse.specs.Reading.{text_says}
 use Rattle.svf_programs.specs.Steps.{Step, Scan, Go, Path, Run, Trst, Numbered, Program}
 use Rattle.svf_settings.specs.Refusals.{refusal, refusal_within}
+use Rattle.svf_settings.specs.Periods.{period_at}
 use Rattle.svf_settings.specs.Programs.{resolution}
 use Rattle.scan_vectors.specs.Vector.{PartBits, VectorBit, join, judge}
-use Rattle.scan_vectors.specs.declared.part.Part.TheVariants.{Data}
+use Rattle.scan_vectors.specs.declared.part.Part.{Part}
+use Rattle.scan_vectors.specs.declared.part.Part.TheVariants.{Header, Data, Trailer}
 use Rattle.worked_examples.specs.Flat.{bits, field_bits, absent, sdr, sir, hdr, tdr, flat}
 
 abbrev pub at : ℕ → Code → Result Program SvfFault
@@ -39,9 +41,19 @@ accepted text = text_says text >>= resolution
 abbrev pub run : Option ℕ → Option ℕ → Option ℕ → Said
 run count min max = said.run_test None count min max None
 
+-- a bit of a header or a trailer
+abbrev pub part_bit : Part → ℕ → Bool → Option Bool → VectorBit
+part_bit part k tdi wanted = record { tdi = tdi; wanted = wanted; part = part; place = k }
+
 -- a part of n bits, each 0 and wanted
 abbrev pub all_wanted : ℕ → PartBits
 all_wanted n = record { tdi = bits n 0; want = bits n 0; care = replicate n true }
+
+-- six statements, of which the second and the fourth set a period, and the fifth none
+abbrev pub period_statements : List Said
+period_statements =
+    sdr 4 (field_bits 4 5) absent absent ∷ said.frequency (Some 500000) ∷ sdr 4 absent absent absent
+    ∷ said.frequency (Some 500000) ∷ said.frequency None ∷ sdr 4 absent absent absent ∷ []
 
 pub record SettingsRows : Type 0 where
   -- SIR 2 TDI (3); SDR 8 TDI (00) TDO (F0) MASK (0F); SDR 4 TDI (0) TDO (0); SDR 8 TDI (00) TDO (F0): no mask is kept
@@ -138,6 +150,48 @@ pub record SettingsRows : Type 0 where
       ∷ []))
       ≡ 1 ∷ 5 ∷ 1000000000000000000000 ∷ 3 ∷ 0 ∷ 0 ∷ 1 ∷ 5 ∷ 6 ∷ 13 ∷ 34 ∷ 1000000000000000000000 ∷ 5 ∷ 0 ∷ 0 ∷ 1 ∷ 5
       ∷ 10 ∷ []
+  -- a mask goes with a change of length, and a TDO with each scan
+  pub mask_and_tdo : flat (accepted (codes "SDR 2 TDI (0) TDO (2) MASK (1); SDR 2 TDO (3); SDR 1 TDI (0);"
+      ++ codes "SDR 2 TDI (0) TDO (2); SDR 2;"))
+      ≡ flat (is
+      (nth 1 (Scan Dr (data_bit 0 false (Some false) ∷ data_bit 1 false None ∷ []) Idle)
+      ∷ nth 2 (Scan Dr (data_bit 0 false (Some true) ∷ data_bit 1 false None ∷ []) Idle)
+      ∷ nth 3 (Scan Dr (data_bit 0 false None ∷ []) Idle)
+      ∷ nth 4 (Scan Dr (data_bit 0 false (Some false) ∷ data_bit 1 false (Some true) ∷ []) Idle)
+      ∷ nth 5 (Scan Dr (data_bit 0 false None ∷ data_bit 1 false None ∷ []) Idle) ∷ []) 5)
+  pub header_and_trailer : flat (accepted
+      (codes "HDR 1 TDI (1) TDO (1); TDR 2 TDI (1) TDO (2) MASK (2); SDR 1 TDI (0); SDR 1 TDO (1);"))
+      ≡ flat (is
+      (nth 3 (Scan Dr (part_bit Header 0 true (Some true) ∷ data_bit 0 false None ∷ part_bit Trailer 0 true None
+      ∷ part_bit Trailer 1 false (Some true) ∷ []) Idle)
+      ∷ nth 4 (Scan Dr (part_bit Header 0 true (Some true) ∷ data_bit 0 false (Some true)
+      ∷ part_bit Trailer 0 true None ∷ part_bit Trailer 1 false (Some true) ∷ []) Idle) ∷ []) 4)
+  -- a header of the other column does not count, and one of length 0 takes it away
+  pub other_headers : flat (accepted
+      (codes "HIR 1 TDI (1); HDR 1 TDI (1); SDR 1 TDI (0); HDR 0; SDR 1; SIR 1 TDI (0);"))
+      ≡ flat (is
+      (nth 3 (Scan Dr (part_bit Header 0 true None ∷ data_bit 0 false None ∷ []) Idle)
+      ∷ nth 5 (Scan Dr (data_bit 0 false None ∷ []) Idle)
+      ∷ nth 6 (Scan Ir (part_bit Header 0 true None ∷ data_bit 0 false None ∷ []) Idle) ∷ []) 6)
+  -- bits above the digits that are written are 0, and are not wanted where they are of the mask
+  pub unwritten : flat (accepted (codes "SDR 6 TDI (1) TDO (1) MASK (5);"))
+      ≡ flat (is (nth 1 (Scan Dr
+      (data_bit 0 true (Some true) ∷ data_bit 1 false None ∷ data_bit 2 false (Some false) ∷ data_bit 3 false None
+      ∷ data_bit 4 false None ∷ data_bit 5 false None ∷ []) Idle) ∷ []) 1)
+  pub held_in_reset : accepted (codes "TRST ON; STATE RESET; RUNTEST RESET 5 TCK;")
+      ≡ is (nth 1 (Trst word.On) ∷ nth 2 (Go Reset) ∷ nth 3 (Run Reset 5 Reset) ∷ []) 3
+  -- a path that leaves RESET and comes back
+  pub leaves_reset : accepted (codes "TRST ON; STATE IDLE DRSELECT IRSELECT RESET;") ≡ at 2 code.TrstHeld
+  pub own_refusal : accepted (codes "TRST ON; SDR 4;") ≡ at 2 code.MissingTdi
+  pub longer_than_any : accepted (codes "FREQUENCY 1E12 HZ; RUNTEST 1E6 SEC;") ≡ at 2 code.TooLarge
+  pub gap : accepted (codes "STATE DRPAUSE IDLE;") ≡ at 1 code.BadPath
+  -- the period by default is a microsecond
+  pub by_default : accepted (codes "RUNTEST 2.5E-6 SEC;") ≡ is (nth 1 (Run Idle 3 Idle) ∷ []) 1
+  pub most_at_once : accepted (codes "RUNTEST 4294967295 TCK;") ≡ is (nth 1 (Run Idle 4294967295 Idle) ∷ []) 1
+  -- SDR 4 TDI (5); FREQUENCY 2E6 HZ; SDR 4; FREQUENCY 2E6 HZ; FREQUENCY; SDR 4: a period is in force behind its
+  -- statement
+  pub periods : map (period_at period_statements) (0 ∷ 1 ∷ 2 ∷ 3 ∷ 4 ∷ 5 ∷ 6 ∷ 7 ∷ 8 ∷ [])
+      ≡ 1000000 ∷ 1000000 ∷ 1000000 ∷ 500000 ∷ 500000 ∷ 500000 ∷ 1000000 ∷ 1000000 ∷ 1000000 ∷ []
   -- an answer of four bits that differs at places 2 and 3 from one of parts of 1, 2 and 1 bits, all wanted
   pub judged : judge (join (all_wanted 1) (all_wanted 2) (all_wanted 1)) (false ∷ false ∷ true ∷ true ∷ [])
       ≡ Some (Data, 1)

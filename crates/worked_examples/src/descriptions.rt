@@ -24,4 +24,5 @@ pub fn rows()
     ensures boundary_4 { text_says text.boundary_4 ≡ expected.boundary_4 }
     ensures cut_100 { text_says text.cut_100 ≡ expected.cut_100 }
     ensures hash { text_says text.hash ≡ expected.hash }
+    ensures whole { text_says text.whole ≡ expected.whole }
 {}

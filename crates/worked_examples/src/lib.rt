@@ -15,4 +15,6 @@ pub use grammar::{
     tokens_are_read,
 };
 pub use plays::{edges_compute, following_computes, plays_compute};
-pub use settings::{numbers_compute, settings_compute};
+pub use settings::{
+    numbers_compute, settings_compute, statements_compute, tokens_compute, words_compute,
+};
