@@ -72,6 +72,7 @@ begins cs pins old are steps board block goes = record {
     noted = refl;
   };
   over = λ none. ap (λ (l : List Numbered). noted_by pins l goes.state) (goes.over none);
+  none = goes.over;
   fewer = goes.fewer;
 }
 

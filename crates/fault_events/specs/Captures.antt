@@ -85,11 +85,13 @@ pub record AreLeft (cs : List Noted) (pins : List Pin) (c : Captures) : Type 0 w
   pub numbered : c.numbers.pins.items ≡ pins
   pub noted : cs ≡ noted_by pins (left c.steps) way.state
 
--- These captures begin with a block, and the others are left; they are none where the block is empty.
+-- These captures begin with a block, and the others are left; they are none where the block is empty, and no step is
+-- left then.
 pub record Begins (cs : List Noted) (pins : List Pin) (old : Captures) (block : List Capture)
     (new : Captures) : Type 0 where
   pub rest : List Noted
   pub are : cs ≡ map seen block ++ rest
   pub leaves : AreLeft rest pins new
   pub over : block ≡ [] → rest ≡ []
+  pub none : block ≡ [] → steps_left new ≡ []
   pub fewer : (block ≡ [] → ⊥) → length (steps_left new) < length (steps_left old)

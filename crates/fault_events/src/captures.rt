@@ -1,6 +1,6 @@
 //! The captures of the data column in a program's run on a board, noted.
 
-ghost use Rattle.std.specs.Prelude.{◌≡◌, ◌++◌, ◌∷◌, [], map, IfOk, OnOk};
+ghost use Rattle.std.specs.Prelude.{◌≡◌, ◌<◌, ◌++◌, ◌∷◌, [], map, IfOk, OnOk};
 ghost use Rattle.scan_vectors.specs.Held.{bits};
 ghost use Rattle.scan_vectors.specs.Vector.{tdis};
 ghost use Rattle.jt_tap.specs.Controller as controller;
@@ -29,9 +29,6 @@ use jt_tap::{Column, State, Work};
 use scan_vectors::{Failures, Part3, Vector, join};
 use std::alloc::{AllocError, Global};
 use svf_programs::{Action, Program, Step, Steps};
-
-/// So many captures are noted at a time.
-const BLOCK: usize = 64;
 
 /// A capture of the data column: the number of its statement, counted from 1, and what is noted of each pin of the
 /// board's nets before it, net after net.
@@ -319,15 +316,17 @@ fn drive_trst(step: &Step<'_>, board: &mut Board)
     play_step(step, board, &mut failures);
 }
 
-/// Plays steps on a board at rest (asked), whatever fails, until 64 captures of the data column are noted or no step is
-/// left. Those of a step stay together. Refused where memory runs out.
+/// Plays steps on a board at rest (asked), whatever fails, until so many captures of the data column, and some (asked),
+/// are noted or no step is left. Those of a step stay together. Refused where memory runs out.
 fn note_steps(
     alloc: Global,
     devices: &[PlannedDevice],
     numbers: &PinNumbers,
+    most: usize,
     steps: &mut Steps<'_>,
     board: &mut Board,
 ) -> Result<Vec<Capture>, AllocError>
+    requires some { 0 < most }
     requires rests { IsResting board.old }
     requires fits { Fits (members board.old.chips) devices.now numbers.now }
     requires within { AllWithin (left steps.old) }
@@ -335,7 +334,7 @@ fn note_steps(
         (left steps.new) board.new v.items) }
 {
     let mut list = Vec::new(alloc);
-    'steps: while list.len() < BLOCK {
+    'steps: while list.len() < most {
         let Some(step) = steps.next() else {
             return Ok(list);
         };
@@ -380,16 +379,18 @@ pub fn start_play<'a>(
 }
 
 impl<'a> Captures<'a> {
-    ghost use Rattle.std.specs.Prelude.{List, IfOk};
+    ghost use Rattle.std.specs.Prelude.{◌<◌, List, IfOk};
     ghost use Rattle.pin_nets.specs.declared.Pin.{Pin as ThePin};
     ghost use Rattle.fault_events.specs.Captures.{AreLeft, Begins, IsUnderWay, Noted};
 
-    /// What is noted at the next captures of the data column, whatever fails: of 64 or a few more, since those of a
-    /// step stay together; of fewer at the end of the program, and of none behind it. Refused where memory runs out.
+    /// What is noted at the next captures of the data column, whatever fails: of so many (some, asked) or a few more,
+    /// since those of a step stay together; of fewer at the end of the program, and of none behind it. Refused where
+    /// memory runs out.
     ///
     /// Asks for a play that `start_play` began.
-    pub fn next_block(&mut self, alloc: Global) -> Result<Vec<Capture>, AllocError>
-        requires { IsUnderWay self.old }
+    pub fn next_block(&mut self, alloc: Global, most: usize) -> Result<Vec<Capture>, AllocError>
+        requires some { 0 < most }
+        requires way { IsUnderWay self.old }
         ensures { (cs : List Noted) (pins : List ThePin) → AreLeft cs pins self.old
             → IfOk result (λ v. Begins cs pins self.old v.items self.new) }
     {
@@ -397,6 +398,7 @@ impl<'a> Captures<'a> {
             alloc,
             self.devices,
             &self.numbers,
+            most,
             &mut self.steps,
             &mut self.board,
         )

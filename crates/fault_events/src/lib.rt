@@ -21,6 +21,6 @@ pub use laws::{
     captures_may_be_cut, captures_take_from_sources, events_compute, events_tell_of_faults,
     events_tell_of_runs, notes_tell_of_faults, notes_tell_of_ways,
 };
-pub use nets::{NetCapture, net_captures, net_ending, note_at, pulls_of};
+pub use nets::{NetCapture, net_captures, net_ending, note_at, pulls_of, put_net_captures};
 pub use notes::{Note, Spot};
 pub use ways::{Block, block_of, way_ending};

@@ -35,13 +35,27 @@ pub fn net_captures(
         (λ v. map seen v.items ≡ map (λ c. with_nets_noted (map planned_net nets.now) (captures.seen c)) list.now) }
 {
     let mut all = Vec::with_capacity(alloc, list.len())?;
+    put_net_captures(alloc, nets, list, &mut all)?;
+    Ok(all)
+}
+
+/// The same, put behind others.
+pub fn put_net_captures(
+    alloc: Global,
+    nets: &[PlannedNet],
+    list: &[Capture],
+    all: &mut Vec<NetCapture>,
+) -> Result<(), AllocError>
+    ensures { OnOk result (map seen all.new.items
+        ≡ map seen all.old.items ++ map (λ c. with_nets_noted (map planned_net nets.now) (captures.seen c)) list.now) }
+{
     for capture in list {
         all.push(NetCapture {
             command: capture.command,
             nets: net_notes(alloc, nets, &capture.pins)?,
         })?;
     }
-    Ok(all)
+    Ok(())
 }
 
 /// What is noted of each net, by the notes of all pins, net after net.

@@ -39,6 +39,13 @@ impl Block {
     {
         &self.nets
     }
+
+    /// The same, without what is noted of pins.
+    pub fn into_captures(self) -> Vec<NetCapture>
+        ensures { result ≡ self.nets }
+    {
+        self.nets
+    }
 }
 
 /// Captures of a play on these nets, as faults are judged by them. Refused where memory runs out.

@@ -227,6 +227,30 @@ firsts_by_net nets its_way of (n ∷ ns) =
     (if way_stays nets its_way (first_note nets its_way n.notes) (second_note nets its_way n.notes) then [] else r)) (firsts_by_net nets its_way of ns)
     ∙ sym (by-notes nets its_way n ns)
 
+-- ---- at the first captures of more
+
+more-put : (m : Mismatch) (c : ℕ) (o : Option Spot) (b : Bool) (xs ys : List Mismatch) → (IsAmong m xs → IsAmong m ys)
+    → IsAmong m (put_spot c o (if b then [] else xs)) → IsAmong m (put_spot c o (if b then [] else ys))
+more-put m c None true xs ys more among = among
+more-put m c None false xs ys more among = more among
+more-put m c (Some s) b xs ys more (inl is) = inl is
+more-put m c (Some s) true xs ys more (inr among) = inr among
+more-put m c (Some s) false xs ys more (inr among) = inr (more among)
+
+firsts-kept : (nets : List Net) (its_way : Way) (ns more : List Noted) (m : Mismatch) → IsAmong m (firsts_noted nets its_way ns)
+    → IsAmong m (firsts_noted nets its_way (ns ++ more))
+firsts-kept nets its_way [] more m among = absurd among
+firsts-kept nets its_way (n ∷ ns) more m among =
+    let one = first_note nets its_way n.notes in
+    let two = second_note nets its_way n.notes in
+    subst (IsAmong m) (sym (by-notes nets its_way n (ns ++ more)))
+    (more-put m n.command (way_first nets its_way one two) (way_stays nets its_way one two) (firsts_noted nets its_way ns) (firsts_noted nets its_way (ns ++ more))
+    (firsts-kept nets its_way ns more m) (subst (IsAmong m) (by-notes nets its_way n ns) among))
+
+pub other_kept : (bits : List Mismatch) (nets : List Net) (its_way : Way) (ns more : List Noted) → HasOther bits (firsts_noted nets its_way ns)
+    → HasOther bits (firsts_noted nets its_way (ns ++ more))
+other_kept bits nets its_way ns more h = record { other = h.other; there = firsts-kept nets its_way ns more h.other h.there; missing = h.missing }
+
 -- ---- whether these are among some bits
 
 pub number_is : (a : ℕ) → (a == a) ≡ true

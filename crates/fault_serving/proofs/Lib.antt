@@ -1,4 +1,6 @@
+pub mod Changing
 pub mod Firsts
+pub mod Fronts
 pub mod OtherBits
 pub mod OnePlay
 pub mod Plain

@@ -18,8 +18,7 @@ use Rattle.fault_events.specs.Captures.{Noted}
 use Rattle.fault_events.specs.Nets.{ending_by_nets, note_at}
 use Rattle.fault_events.specs.Notes.{earlier, some_if}
 use Rattle.fault_events.specs.Pulls.{first_by, pulls_of, stays_by}
-use Rattle.fault_serving.specs.Sifting.{Fails}
-use Rattle.fault_serving.specs.Planes.{AreQuiet, IsNoteAt, fails_at, tells, tells_at}
+use Rattle.fault_serving.specs.Planes.{AreQuiet, Fails, IsNoteAt, fails_at, tells, tells_at}
 
 -- ---- what words tell is what notes do
 

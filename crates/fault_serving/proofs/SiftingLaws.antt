@@ -1,7 +1,8 @@
 -- Bridges that the first captures of a play judge, and the other faults.
-use Rattle.std.proofs.Common.{◌≡◌, ◌<◌, ◌≤◌, ◌+◌, ⊎_elim, inl, inr, ℕ, Bool, true, false, not, ◌&&◌, ◌||◌, List, [], ◌∷◌, ◌++◌, length, map, drop, get_or, slice_get, slice_index_or, Option, Some, None, refl, sym, ap, ap₂, subst, ◌∙◌, arith}
+use Rattle.std.proofs.Common.{◌≡◌, ◌<◌, ◌≤◌, ◌+◌, ⊎_elim, inl, inr, ℕ, Bool, true, false, not, ◌&&◌, ◌||◌, List, [], ◌∷◌, ◌++◌, length, map, drop, get_or, slice_get, append_assoc, Option, Some, None, refl, sym, ap, ap₂, subst, ◌∙◌, arith}
 use Rattle.std.specs.Prelude.{is_some}
-use Rattle.std.specs.List.{AllByRecursion, list_any}
+use Rattle.std.specs.Global.{Vec}
+use Rattle.std.specs.List.{AllByRecursion, list_all, list_any}
 use Rattle.std.proofs.lemmas.Bool.{cases_lt, false≢true, not-true}
 use Rattle.std.proofs.lemmas.List.{append-nil, drop_all, length-map}
 use Rattle.std.proofs.lemmas.Option.{slice_get-get_or}
@@ -43,9 +44,9 @@ use Rattle.fault_serving.specs.declared.sifting.Counts.{Counts}
 use Rattle.fault_serving.specs.declared.sifting.Outcome.{Outcome}
 use Rattle.fault_serving.specs.declared.sifting.Outcome.TheVariants.{Caught, Missed, Invisible}
 use Rattle.fault_serving.specs.declared.sifting.Sieve.{Sieve}
-use Rattle.fault_serving.specs.Planes.{AreNetWords, AreQuiet, AreWordsOf, IsFailing, IsQuiet, IsToldAs, failing_at, no_words, tells}
-use Rattle.fault_serving.specs.Serving.{IsFew, IsToldOf, MayServe, Serves, first_words}
-use Rattle.fault_serving.specs.Sifting.{AreCounted, AreSifted, ComesBy, ComesTo, Fails, IsSieve, IsToldBy, IsToldToFail, Sifts, WayComesBy, WayComesTo, both_come, four_come, may_count, nets_of, no_counts, one_more, outcome_by}
+use Rattle.fault_serving.specs.Planes.{AreBlocksOf, AreNetWords, AreQuiet, AreWordsOf, Fails, IsFailing, IsQuiet, IsToldAt, IsToldIn, IsToldOn, failing_at, tells, words_at}
+use Rattle.fault_serving.specs.Serving.{IsToldOf, MayServe, Serves, first_blocks, is_whole}
+use Rattle.fault_serving.specs.Sifting.{AreCounted, AreSifted, ComesBy, ComesTo, IsSieve, IsToldBy, IsToldToFail, Sifts, WayComesBy, WayComesTo, both_come, four_come, may_count, nets_of, no_counts, one_more, outcome_by}
 use Rattle.fault_serving.proofs.OnePlay.{split_all, told_of}
 use Rattle.fault_serving.proofs.Quiet.{fails_there, passed_over, words_fail, words_tell}
 
@@ -103,21 +104,7 @@ module _ (nets : List Net) (first second : ℕ) (winner : Winner) (ns : List Not
         sym (by_nets nets bridge tt ns) ∙ passed_over nets first second winner 64 noted (are-quiet same)
         ∙ ap (λ (l : List Noted). ending_by_nets bridge (pulls_of nets bridge) first second l) none
 
--- what words tell of a bridge, as its captures do
-pub told_by : (s : Sieve) (ns : List Noted) (first second : ℕ) (p : Pulls) → IsSieve ns s → first < length s.words.now → second < length s.words.now
-    → p ≡ pulls_of (nets_of s) (way.Short first second Zeros) → (winner : Winner) (fails : Bool)
-    → IsToldAs s.whole fails winner p (slice_index_or s.words.now first no_words) (slice_index_or s.words.now second no_words)
-    → IsToldBy s ns fails (way.Short first second winner)
-told_by s ns first second p is inside inside' same winner true told =
-    by_words (nets_of s) first second winner ns (slice_index_or s.words.now first no_words) (slice_index_or s.words.now second no_words)
-    (is.words first inside) (is.words second inside') p told same
-told_by s ns first second p is inside inside' same winner false told = (
-  told.0,
-  by_quiet (nets_of s) first second winner ns (slice_index_or s.words.now first no_words) (slice_index_or s.words.now second no_words)
-      (is.words first inside) (is.words second inside') p told.1 same (is.few told.0),
-)
-
--- ---- what a bridge comes to
+-- ---- block after block
 
 -- of four that may win
 pub each_winner : (P : Winner → Type 0) → P Zeros → P Ones → P First → P Second → (winner : Winner) → P winner
@@ -125,6 +112,113 @@ each_winner P zeros ones first second Zeros = zeros
 each_winner P zeros ones first second Ones = ones
 each_winner P zeros ones first second First = first
 each_winner P zeros ones first second Second = second
+
+failing : (o rest : Option Ending) → Fails o → Fails (and_then o rest)
+failing o rest f = record { command = f.command; part = f.part; bit = f.bit; is = ap (λ (x : Option Ending). and_then x rest) f.is }
+
+-- a way fails, or passes so far
+abbrev pub IsEnding : Bool → Option Ending → Type 0
+IsEnding true o = Fails o
+IsEnding false o = o ≡ Some Pass
+
+on-told : (before fails : Bool) (o more : Option Ending) → IsEnding before o → (before ≡ true → fails ≡ true) → (before ≡ false → IsEnding fails more)
+    → IsEnding fails (and_then o more)
+on-told true fails o more is stays new = subst (λ (b : Bool). IsEnding b (and_then o more)) (sym (stays refl)) (failing o more is)
+on-told false fails o more is stays new = subst (λ (x : Option Ending). IsEnding fails (and_then x more)) (sym is) (new refl)
+
+module _ (winner : Winner) (p : Pulls) (one two : NoteWords) where
+  fails-on : (before fails : Bool) → IsToldOn before fails winner p one two → before ≡ true → fails ≡ true
+  fails-on true fails told is = told
+  fails-on false fails told is = absurd (false≢true is)
+
+  block-tells : (nets : List Net) (first second : ℕ) (ns : List Noted) → AreWordsOf first (map (with_nets_noted nets) ns) one
+      → AreWordsOf second (map (with_nets_noted nets) ns) two → length ns ≤ 64 → p ≡ pulls_of nets (way.Short first second winner)
+      → (before fails : Bool) → IsToldOn before fails winner p one two → before ≡ false → IsEnding fails (ending_noted nets (way.Short first second winner) ns)
+  block-tells nets first second ns of of' few same true fails told is = absurd (false≢true (sym is))
+  block-tells nets first second ns of of' few same false true told is = by_words nets first second winner ns one two of of' p told same
+  block-tells nets first second ns of of' few same false false told is = by_quiet nets first second winner ns one two of of' p told same few
+
+-- what is told of a bridge before so many blocks are left
+pub record IsSoFar (nets : List Net) (ns : List Noted) (first second : ℕ) (f : Failing) (blocks : List (Vec NoteWords)) : Type 0 where
+  pub done : List Noted
+  pub behind : List Noted
+  pub are : ns ≡ done ++ behind
+  pub words : AreBlocksOf nets behind (map (λ b. b.items) blocks)
+  pub told : (winner : Winner) → IsEnding (failing_at f winner) (ending_noted nets (way.Short first second winner) done)
+
+abbrev pub none_failing : Failing
+none_failing = record { zeros = false; ones = false; first = false; second = false }
+
+module _ (nets : List Net) (ns : List Noted) (first second : ℕ) where
+  pub so_far : (blocks : List (Vec NoteWords)) → AreBlocksOf nets ns (map (λ b. b.items) blocks) → IsSoFar nets ns first second none_failing blocks
+  so_far blocks are = record {
+    done = [];
+    behind = ns;
+    are = refl;
+    words = are;
+    told = each_winner (λ (winner : Winner). IsEnding (failing_at none_failing winner) (ending_noted nets (way.Short first second winner) [])) refl refl refl refl;
+  }
+
+  pub so_far_more : (f g : Failing) (b : Vec NoteWords) (bs : List (Vec NoteWords)) (p : Pulls) → p ≡ pulls_of nets (way.Short first second Zeros)
+      → IsToldAt f p b.items first second g → IsSoFar nets ns first second f (b ∷ bs) → IsSoFar nets ns first second g bs
+  so_far_more f g b bs p same tells is =
+      let block = is.words in
+      record {
+        done = is.done ++ block.0;
+        behind = block.1;
+        are = is.are ∙ ap (λ (l : List Noted). is.done ++ l) block.2 ∙ sym (append_assoc is.done block.0 block.1);
+        words = block.5;
+        told = λ winner.
+            let its : Way = way.Short first second winner in
+            let before = failing_at f winner in
+            let fails = failing_at g winner in
+            let one = words_at first b.items in
+            let two = words_at second b.items in
+            subst (IsEnding fails) (sym (captures_may_be_cut nets its is.done block.0))
+            (on-told before fails (ending_noted nets its is.done) (ending_noted nets its block.0) (is.told winner)
+            (fails-on winner p one two before fails (tells.told winner))
+            (block-tells winner p one two nets first second block.0 (block.4 first tells.one) (block.4 second tells.other) block.3 same before fails (tells.told winner)));
+      }
+
+  and-both : (a b : Bool) → (a && b) ≡ true → (a ≡ true) × (b ≡ true)
+  and-both true b e = (refl, e)
+  and-both false b e = absurd (false≢true e)
+
+  each-true : (f : Failing) → list_all (failing_at f) winners ≡ true → (winner : Winner) → failing_at f winner ≡ true
+  each-true f all =
+      let one = and-both f.zeros (f.ones && (f.first && (f.second && true))) all in
+      let two = and-both f.ones (f.first && (f.second && true)) one.1 in
+      let three = and-both f.first (f.second && true) two.1 in
+      let four = and-both f.second true three.1 in
+      each_winner (λ (winner : Winner). failing_at f winner ≡ true) one.0 two.0 three.0 four.0
+
+  -- what fails by some captures does by all
+  pub told_of_each : (whole : Bool) (f : Failing) (blocks : List (Vec NoteWords)) → IsSoFar nets ns first second f blocks
+      → list_all (failing_at f) winners ≡ true → (winner : Winner) → IsToldIn whole nets ns (failing_at f winner) (way.Short first second winner)
+  told_of_each whole f blocks is all winner =
+      let its : Way = way.Short first second winner in
+      let e = each-true f all winner in
+      let o = ending_noted nets its is.done in
+      let fails : Fails o = subst (λ (b : Bool). IsEnding b o) e (is.told winner) in
+      subst (λ (b : Bool). IsToldIn whole nets ns b its) (sym e)
+      (subst (λ (l : List Noted). Fails (ending_noted nets its l)) (sym is.are)
+      (subst Fails (sym (captures_may_be_cut nets its is.done is.behind)) (failing o (ending_noted nets its is.behind) fails)))
+
+  told-whole : (whole fails : Bool) (its_way : Way) → whole ≡ true → IsEnding fails (ending_noted nets its_way ns) → IsToldIn whole nets ns fails its_way
+  told-whole whole true its_way holds is = is
+  told-whole whole false its_way holds is = (holds, is)
+
+  -- what is told where no block is left
+  pub told_of_all : (whole : Bool) (f : Failing) (blocks : List (Vec NoteWords)) → IsSoFar nets ns first second f blocks → blocks ≡ [] → whole ≡ true
+      → (winner : Winner) → IsToldIn whole nets ns (failing_at f winner) (way.Short first second winner)
+  told_of_all whole f blocks is none holds winner =
+      let its : Way = way.Short first second winner in
+      let over : is.behind ≡ [] = subst (λ (bs : List (Vec NoteWords)). AreBlocksOf nets is.behind (map (λ b. b.items) bs)) none is.words in
+      let all : ns ≡ is.done = is.are ∙ ap (λ (l : List Noted). is.done ++ l) over ∙ append-nil is.done in
+      told-whole whole (failing_at f winner) its holds
+      (subst (λ (l : List Noted). IsEnding (failing_at f winner) (ending_noted nets its l)) (sym all) (is.told winner))
+
+-- ---- what a bridge comes to
 
 both-by : (m c m' c' : Bool) → both_come (outcome_by m c) (outcome_by m' c') ≡ outcome_by (m || m') (c || c')
 both-by true c m' c' = refl
@@ -233,15 +327,11 @@ some_kept Is (f ∷ fs) kept n are some e = absurd (cc)
 
 -- ---- what the first captures tell is so
 
-failing : (o rest : Option Ending) → Fails o → Fails (and_then o rest)
-failing o rest f = record { command = f.command; part = f.part; bit = f.bit; is = ap (λ (x : Option Ending). and_then x rest) f.is }
-
 module _ (program : Program) (legal : IsLegalProgram program.steps) (w : Wiring) (can : CanBeJudged w) where
   -- some captures: what fails by them fails, and what passes does, where they are all
-  record AreFirst (ws : List NoteWords) (whole : Bool) : Type 0 where
+  record AreFirst (blocks : List (Vec NoteWords)) (whole : Bool) : Type 0 where
     pub ns : List Noted
-    pub words : AreNetWords (map (with_nets_noted w.nets) ns) ws
-    pub few : whole ≡ true → length ns ≤ 64
+    pub words : AreBlocksOf w.nets ns (map (λ b. b.items) blocks)
     pub fails : (its_way : Way) → IsWayOf w.nets its_way → Fails (ending_noted w.nets its_way ns) → IsToldToFail program w its_way
     pub passes : (its_way : Way) → IsWayOf w.nets its_way → whole ≡ true → ending_noted w.nets its_way ns ≡ Some Pass
         → IsToldOf program w its_way (Some Pass)
@@ -257,34 +347,37 @@ module _ (program : Program) (legal : IsLegalProgram program.steps) (w : Wiring)
             (ap (ending_noted w.nets its_way) are ∙ captures_may_be_cut w.nets its_way first rest ∙ all.is);
       }
 
-  first-of : (s : Serving) → MayServe program w s → (whole : Bool) → (whole ≡ true → IsFew s) → AreFirst (first_words s) whole
-  first-of Nothing may whole few = record {
+  first-of : (s : Serving) → MayServe program w s → AreFirst (first_blocks s) (is_whole s)
+  first-of Nothing may = record {
     ns = [];
-    words = λ net h. absurd (omega (arith, h));
-    few = λ is. omega arith;
+    words = refl;
     fails = λ its_way its f. let never = f.is in absurd (cc);
-    passes = λ its_way its is e. absurd (few is);
+    passes = λ its_way its is e. absurd (false≢true is);
   }
-  first-of (Whole t) may whole few = record {
-    ns = noted_in t.block;
-    words = subst (λ (l : List Noted). AreNetWords l t.words.items) may.1.block.by_net may.1.words;
-    few = λ is. omega (arith, few is, ap (λ (l : List Noted). length l) may.1.block.by_net, length-map t.block.nets.items seen, length-map (noted_in t.block) (with_nets_noted w.nets));
-    fails = told-to-fail may.0 (noted_in t.block) [] (sym may.2 ∙ sym (append-nil (noted_in t.block)));
-    passes = λ its_way its is e. told_of program legal w can may.0 its_way its (Some Pass) (ap (ending_noted w.nets its_way) (sym may.2) ∙ e);
-  }
-  first-of (Blocks words) may whole few = record {
-    ns = may.1.first;
-    words = may.1.words;
-    few = λ is. absurd (few is);
-    fails = told-to-fail may.0 may.1.first may.1.rest may.1.are;
-    passes = λ its_way its is e. absurd (few is);
-  }
+  first-of (Whole t) may =
+      let noted = noted_in t.block in
+      record {
+        ns = noted;
+        words = (noted, [], sym (append-nil noted), may.3, subst (λ (l : List Noted). AreNetWords l t.words.items) may.1.block.by_net may.1.words, refl);
+        fails = told-to-fail may.0 noted [] (sym may.2 ∙ sym (append-nil noted));
+        passes = λ its_way its is e. told_of program legal w can may.0 its_way its (Some Pass) (ap (ending_noted w.nets its_way) (sym may.2) ∙ e);
+      }
+  first-of (Blocks f) may =
+      let p = may.2 in
+      record {
+        ns = p.first;
+        words = p.words;
+        fails = told-to-fail may.0 p.first p.rest p.are;
+        passes = λ its_way its is e.
+            told_of program legal w can may.0 its_way its (Some Pass)
+            (ap (ending_noted w.nets its_way) (p.are ∙ ap (λ (l : List Noted). p.first ++ l) (p.over is) ∙ append-nil p.first) ∙ e);
+      }
 
   module _ (sights : Sights) (seen_of : AreSights w.members w.nets sights) (s : Sieve) (nets : nets_of s ≡ w.nets) (seen_by : s.sights.now ≡ sights) where
     shown-by : (its_way : Way) (b : Bool) → shows_by s.sights.now (nets_of s) its_way ≡ b → shows_by sights w.nets its_way ≡ b
     shown-by its_way b e = sym (ap₂ (λ (x : Sights) (ns : List Net). shows_by x ns its_way) seen_by nets) ∙ e
 
-    module _ (of : AreFirst s.words.now s.whole) where
+    module _ (of : AreFirst s.blocks.now s.whole) where
       passes-by : (its_way : Way) → IsWayOf w.nets its_way → IsToldBy s of.ns false its_way → IsToldOf program w its_way (Some Pass)
       passes-by its_way its told = of.passes its_way its told.0 (ap (λ (ns : List Net). ending_noted ns its_way of.ns) (sym nets) ∙ told.1)
 
@@ -312,15 +405,13 @@ module _ (program : Program) (legal : IsLegalProgram program.steps) (w : Wiring)
       pub theirs : AllByRecursion (IsFaultOf w.nets) kept
       pub others : AllByRecursion (IsFaultOf w.nets) rest
 
-    pub sifted_told : (serving : Serving) → MayServe program w serving → s.words.now ≡ first_words serving → (s.whole ≡ true → IsFew serving)
+    pub sifted_told : (serving : Serving) → MayServe program w serving → s.blocks.now ≡ first_blocks serving → s.whole ≡ is_whole serving
         → (left kept : List Fault) (counts : Counts) (rest : List Fault) → ((ns : List Noted) → IsSieve ns s → Sifts (ComesBy s ns) left kept counts rest)
         → AllByRecursion (IsFaultOf w.nets) left → AreTheirs left kept counts rest
-    sifted_told serving may words few left kept counts rest sift all =
-        let of = subst (λ (ws : List NoteWords). AreFirst ws s.whole) (sym words) (first-of serving may s.whole few) in
-        let by = sift of.ns (record {
-          words = subst (λ (ns : List Net). AreNetWords (map (with_nets_noted ns) of.ns) s.words.now) (sym nets) of.words;
-          few = of.few;
-        }) in
+    sifted_told serving may blocks whole left kept counts rest sift all =
+        let of : AreFirst s.blocks.now s.whole =
+        subst (λ (bs : List (Vec NoteWords)). AreFirst bs s.whole) (sym blocks) (subst (λ (b : Bool). AreFirst (first_blocks serving) b) (sym whole) (first-of serving may)) in
+        let by = sift of.ns (subst (λ (ns : List Net). AreBlocksOf ns of.ns (map (λ b. b.items) s.blocks.now)) (sym nets) of.words) in
         let parts = split_all (IsFaultOf w.nets) by.first rest (subst (AllByRecursion (IsFaultOf w.nets)) by.are all) in
         record {
           sifts = record {

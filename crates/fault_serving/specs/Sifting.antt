@@ -1,13 +1,12 @@
 -- Bridges that the first captures of a play judge are only counted, by what they come to.
 use Rattle.std.specs.Prelude.{⊤, ◌≡◌, ◌⊎◌, ◌+◌, ℕ, Bool, true, false, List, [], ◌∷◌, ◌++◌, flat_map, map}
-use Rattle.std.specs.Prelude.{◌≤◌, length, if◌then◌else◌, Option, Some}
+use Rattle.std.specs.Prelude.{if◌then◌else◌, Some}
 use Rattle.std.specs.List.{AllByRecursion}
 use Rattle.scan_vectors.specs.declared.part.Part.{Part}
 use Rattle.svf_programs.specs.Steps.{Program}
 use Rattle.pin_nets.specs.Wired.{Net}
 use Rattle.board_plan.specs.Planned.{Wiring}
 use Rattle.board_plan.specs.View.{net as planned_net}
-use Rattle.play_model.specs.declared.ending.Ending.{Ending}
 use Rattle.play_model.specs.declared.ending.Ending.TheVariants.{Fail, Pass}
 use Rattle.board_faults.specs.declared.kinds.Fault.{Fault}
 use Rattle.board_faults.specs.declared.kinds.Fault.TheVariants as fault
@@ -19,8 +18,6 @@ use Rattle.board_faults.specs.Faults.{IsFaultOf, ways}
 use Rattle.board_faults.specs.Sight.{IsInvisible}
 use Rattle.board_faults.specs.Sights.{shows_by}
 use Rattle.fault_events.specs.Captures.{Noted}
-use Rattle.fault_events.specs.Endings.{ending_noted}
-use Rattle.fault_events.specs.Nets.{with_nets_noted}
 use Rattle.fault_serving.specs.declared.sifting.Counting.{Counting}
 use Rattle.fault_serving.specs.declared.sifting.Counting.TheVariants as counting
 use Rattle.fault_serving.specs.declared.sifting.Counts.{Counts}
@@ -28,7 +25,7 @@ use Rattle.fault_serving.specs.declared.sifting.Outcome.{Outcome}
 use Rattle.fault_serving.specs.declared.sifting.Outcome.TheVariants.{Caught, Missed, Invisible}
 use Rattle.fault_serving.specs.declared.sifting.Sieve.{Sieve}
 use Rattle.fault_serving.specs.declared.sifting.Sifted.{Sifted}
-use Rattle.fault_serving.specs.Planes.{AreNetWords}
+use Rattle.fault_serving.specs.Planes.{AreBlocksOf, IsToldIn}
 use Rattle.fault_serving.specs.Serving.{AreTold, IsToldOf}
 
 -- ---- what a bridge comes to
@@ -123,21 +120,12 @@ abbrev pub nets_of : Sieve → List Net
 nets_of s = map planned_net s.nets.now
 
 -- the words of nets at these captures, all of them where they are the whole play
-pub record IsSieve (ns : List Noted) (s : Sieve) : Type 0 where
-  pub words : AreNetWords (map (with_nets_noted (nets_of s)) ns) s.words.now
-  pub few : s.whole ≡ true → length ns ≤ 64
-
--- a bit that fails is told
-pub record Fails (told : Option Ending) : Type 0 where
-  pub command : ℕ
-  pub part : Part
-  pub bit : ℕ
-  pub is : told ≡ Some (Fail command part bit)
+abbrev pub IsSieve : List Noted → Sieve → Type 0
+IsSieve ns s = AreBlocksOf (nets_of s) ns (map (λ b. b.items) s.blocks.now)
 
 -- a way fails by them; or they are all of the play, and it passes
 abbrev pub IsToldBy : Sieve → List Noted → (fails : Bool) → Way → Type 0
-IsToldBy s ns true way = Fails (ending_noted (nets_of s) way ns)
-IsToldBy s ns false way = (s.whole ≡ true) × (ending_noted (nets_of s) way ns ≡ Some Pass)
+IsToldBy s ns fails way = IsToldIn s.whole (nets_of s) ns fails way
 
 abbrev pub outcome_by : (missed caught : Bool) → Outcome
 outcome_by missed caught = if missed then Missed else (if caught then Caught else Invisible)

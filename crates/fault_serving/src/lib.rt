@@ -14,7 +14,7 @@ mod words;
 pub use listing::{firsts_are_failures, may_list, others_are_told};
 pub use planing::NoteWords;
 pub use serving::{
-    Chunk, Serving, Telling, ending_on, next_chunk, serving_of, told_at, told_behind,
+    Chunk, Front, Planes, Serving, Telling, ending_on, next_chunk, serving_of, told_at, told_behind,
 };
 pub use sifting::{Counting, Counts, Outcome, Sifted, next_sifted};
 pub use words::{put_fault, put_way};

@@ -1,18 +1,18 @@
 //! Whether a play to the end lists a bit that is none of some.
 
-ghost use Rattle.std.specs.Prelude.{◌≡◌, false, map};
+ghost use Rattle.std.specs.Prelude.{◌≡◌, List, false, map};
 ghost use Rattle.svf_programs.specs.Sizes.{program_of};
 ghost use Rattle.board_plan.specs.View.{net as planned_net, wiring};
 ghost use Rattle.board_faults.specs.declared.kinds.Way.TheVariants as way;
 ghost use Rattle.board_faults.specs.Faults.{IsWayOf};
 ghost use Rattle.board_faults.specs.Faulty.{CanBeJudged};
-ghost use Rattle.fault_events.specs.Blocks.{noted_in};
-ghost use Rattle.fault_events.specs.Nets.{seen};
+ghost use Rattle.fault_events.specs.Captures.{Noted};
+ghost use Rattle.fault_events.specs.Nets.{seen, with_nets_noted};
 ghost use Rattle.fault_serving.specs.Firsts as spec;
 ghost use Rattle.fault_serving.specs.Firsts.{FirstsAreFailures, HasOther, OthersAreTold, firsts_noted};
-ghost use Rattle.fault_serving.specs.Serving.{IsTelling, ListsOther, MayServe};
+ghost use Rattle.fault_serving.specs.Serving.{ListsOther, MayServe};
 
-use crate::serving::{Serving, Telling};
+use crate::serving::{Serving, kept_captures};
 use board_faults::{Way, Winner};
 use board_plan::{Plan, PlannedNet};
 use fault_events::{NetCapture, Pulls, Spot, first_other, note_at, pulls_of, stays_other};
@@ -20,8 +20,8 @@ use scan_vectors::Mismatch;
 use svf_programs::Program;
 
 /// Whether the play of a program to the end, on a planned board with a fault that shows in one of these ways (asked),
-/// may list no other bits than these, as far as one play of the board tells. That is told of bridges, where a block
-/// holds all captures of the play: the first bit that fails at each of them.
+/// may list no other bits than these, as far as one play of the board tells. That is told of bridges, by the captures
+/// of the first block, if they are kept: the first bit that fails at each of them.
 pub fn may_list(
     serving: &Serving,
     plan: &Plan,
@@ -36,9 +36,6 @@ pub fn may_list(
 {
     // For the proof alone: what the type keeps of a program's steps.
     let _ = program.len();
-    let Serving::Whole(telling) = serving else {
-        return true;
-    };
     let Way::Short {
         first,
         second,
@@ -47,21 +44,22 @@ pub fn may_list(
     else {
         return true;
     };
-    bridge_may_list(telling, &plan.nets, first, second, winner, bits)
+    let captures = kept_captures(serving);
+    bridge_may_list(captures, &plan.nets, first, second, winner, bits)
 }
 
-/// The same of a bridge of two of these nets, by a block.
+/// The same of a bridge of two of these nets, by what is noted of them at the first captures of a play.
 fn bridge_may_list(
-    telling: &Telling,
+    captures: &[NetCapture],
     nets: &[PlannedNet],
     first: usize,
     second: usize,
     winner: Winner,
     bits: &[Mismatch],
 ) -> bool
-    requires { IsTelling (map planned_net nets.now) telling.now }
-    ensures { result ≡ false → HasOther bits.now
-        (firsts_noted (map planned_net nets.now) (way.Short first second winner) (noted_in telling.now.block)) }
+    ensures { (ns : List Noted) → map seen captures.now ≡ map (with_nets_noted (map planned_net nets.now)) ns
+        → result ≡ false
+        → HasOther bits.now (firsts_noted (map planned_net nets.now) (way.Short first second winner) ns) }
 {
     let way = Way::Short {
         first,
@@ -69,7 +67,7 @@ fn bridge_may_list(
         winner,
     };
     let pulls = pulls_of(nets, first, second);
-    lists_firsts(bits, telling.block.captures(), way, pulls, first, second)
+    lists_firsts(bits, captures, way, pulls, first, second)
 }
 
 /// Whether these are all of the bits that fail first where a fault of whole nets shows in a way, one at a capture at

@@ -1,16 +1,19 @@
 //! What is noted of nets, put into words: up to 64 captures at once.
 
 ghost use Rattle.std.specs.Prelude.{◌≡◌, ◌≢◌, ◌<◌, ◌≤◌, ℕ, List, true, false, drop, map, IfOk, IfSome};
+ghost use Rattle.std.specs.List.{list_all};
 ghost use Rattle.jt_bits.specs.Packed.{has_bit};
 ghost use Rattle.board_faults.specs.declared.kinds.Way.TheVariants as way;
 ghost use Rattle.board_faults.specs.declared.kinds.Winner.{Winner as TheWinner};
+ghost use Rattle.board_faults.specs.Faults.{winners};
 ghost use Rattle.board_plan.specs.View.{net as planned_net};
 ghost use Rattle.fault_events.specs.declared.notes.Note.{Note as TheNote};
 ghost use Rattle.fault_events.specs.Captures.{Noted};
 ghost use Rattle.fault_events.specs.Marks.{nothing_noted};
 ghost use Rattle.fault_events.specs.Nets.{seen};
-ghost use Rattle.fault_serving.specs.Planes.{AreNetWords, AreQuiet, AreWordsOf, IsFailing, IsNoteAt, IsQuiet};
-ghost use Rattle.fault_serving.specs.Planes.{IsToldAs, failing_at, fails_at, stays_at, tells_at};
+ghost use Rattle.fault_serving.specs.Planes.{AreBlocksOf, AreNetWords, AreQuiet, AreWordsOf, IsFirstWanted, IsNoteAt};
+ghost use Rattle.fault_serving.specs.Planes.{IsToldAt, ChangesTell, IsToldIn, IsToldOn, IsUntold, failing_at, fails_at};
+ghost use Rattle.fault_serving.specs.Planes.{stays_at, tells_at};
 
 use board_faults::{DrivenWords, Winner, bridge_words, differing, joined};
 use board_plan::PlannedNet;
@@ -116,6 +119,23 @@ struct Changes {
     stays: u64,
 }
 
+impl Changes {
+    ghost use Rattle.std.specs.Prelude.{◌≡◌, ◌||◌, ℕ};
+    ghost use Rattle.jt_bits.specs.Packed.{has_bit};
+
+    /// Those of both.
+    #[inline(always)]
+    fn or(self, other: Changes) -> Changes
+        ensures wanted { (k : ℕ) → has_bit result.wanted k ≡ (has_bit self.wanted k || has_bit other.wanted k) }
+        ensures stays { (k : ℕ) → has_bit result.stays k ≡ (has_bit self.stays k || has_bit other.stays k) }
+    {
+        Changes {
+            wanted: self.wanted | other.wanted,
+            stays: self.stays | other.stays,
+        }
+    }
+}
+
 fn changes_of(winner: Winner, pulls: Pulls, one: NoteWords, two: NoteWords) -> Changes
     ensures wanted { (k : ℕ) → k < 64 → has_bit result.wanted k ≡ fails_at winner pulls one two k }
     ensures stays { (k : ℕ) → k < 64 → has_bit result.stays k ≡ stays_at winner pulls one two k }
@@ -155,7 +175,7 @@ fn lowest(word: u64) -> usize
     word.trailing_zeros() as usize
 }
 
-/// Of each way of a bridge whether it fails; one that does not passes.
+/// Of each way of a bridge whether it fails; one that does not passes so far.
 #[derive(Drop, Clone, Copy)]
 pub(crate) struct Failing {
     pub(crate) zeros: bool,
@@ -178,59 +198,123 @@ impl Failing {
     }
 }
 
-/// Of each way of a bridge whether it fails, if words of its nets tell it: that one passes only where they are whole, and
-/// have all captures of the play.
-pub(crate) fn failing_ways(
-    whole: bool,
-    pulls: Pulls,
-    one: NoteWords,
-    two: NoteWords,
-) -> Option<Failing>
-    ensures { IfSome result
-        (λ f. (winner : TheWinner) → IsToldAs whole (failing_at f winner) winner pulls one two) }
+/// No way fails.
+const NONE_FAILING: Failing = Failing {
+    zeros: false,
+    ones: false,
+    first: false,
+    second: false,
+};
+
+/// Whether each way fails.
+fn is_each_failing(failing: Failing) -> bool
+    ensures { result ≡ list_all (failing_at failing) winners }
 {
+    WINNERS.iter().all(|winner| failing.at(*winner))
+}
+
+/// Who may win on a bridge.
+pub(crate) const WINNERS: [Winner; 4] = [
+    Winner::Zeros,
+    Winner::Ones,
+    Winner::First,
+    Winner::Second,
+];
+
+/// Of each way of a bridge of these nets whether it fails at captures of a play, by words of nets, block after block,
+/// if these tell it: that one passes only where they are whole, and have all captures.
+pub(crate) fn failing_ways(
+    blocks: &[Vec<NoteWords>],
+    whole: bool,
+    nets: &[PlannedNet],
+    first: usize,
+    second: usize,
+) -> Option<Failing>
+    ensures { (ns : List Noted) → AreBlocksOf (map planned_net nets.now) ns (map (λ b. b.items) blocks.now)
+        → IfSome result (λ f. (winner : TheWinner)
+        → IsToldIn whole (map planned_net nets.now) ns (failing_at f winner) (way.Short first second winner)) }
+{
+    let pulls = pulls_of(nets, first, second);
+    let mut failing = NONE_FAILING;
+    for words in blocks {
+        failing = bridge_failing(failing, pulls, words, first, second)?;
+        if is_each_failing(failing) {
+            return Some(failing);
+        }
+    }
+    if whole { Some(failing) } else { None }
+}
+
+/// The same by one block more than before, and by the words of all nets; nothing of nets that are none of theirs.
+#[inline(always)]
+fn bridge_failing(
+    before: Failing,
+    pulls: Pulls,
+    words: &[NoteWords],
+    first: usize,
+    second: usize,
+) -> Option<Failing>
+    ensures { IfSome result (IsToldAt before pulls words.now first second) }
+{
+    if first < words.len() && second < words.len() {
+        return failing_with(before, pulls, words[first], words[second]);
+    }
+    None
+}
+
+/// The same by the words of its nets: one that failed before does, and one that does not tells nothing in this block.
+#[inline(always)]
+fn failing_with(before: Failing, pulls: Pulls, one: NoteWords, two: NoteWords) -> Option<Failing>
+    ensures { IfSome result (λ f. (winner : TheWinner)
+        → IsToldOn (failing_at before winner) (failing_at f winner) winner pulls one two) }
+{
+    let zeros = changes_of(Winner::Zeros, pulls, one, two);
+    let ones = changes_of(Winner::Ones, pulls, one, two);
+    let first = changes_of(Winner::First, pulls, one, two);
+    let second = changes_of(Winner::Second, pulls, one, two);
+    if is_untold(zeros.or(ones).or(first).or(second)) {
+        return Some(before);
+    }
     Some(Failing {
-        zeros: told_to_fail(whole, Winner::Zeros, pulls, one, two)?,
-        ones: told_to_fail(whole, Winner::Ones, pulls, one, two)?,
-        first: told_to_fail(whole, Winner::First, pulls, one, two)?,
-        second: told_to_fail(whole, Winner::Second, pulls, one, two)?,
+        zeros: fails_with(before.zeros, zeros)?,
+        ones: fails_with(before.ones, ones)?,
+        first: fails_with(before.first, first)?,
+        second: fails_with(before.second, second)?,
     })
 }
 
-/// Whether a bridge fails where this one wins, if the words of its nets tell it.
+/// The same of one way by what it changes.
 #[inline(always)]
-fn told_to_fail(
-    whole: bool,
-    winner: Winner,
-    pulls: Pulls,
-    one: NoteWords,
-    two: NoteWords,
-) -> Option<bool>
-    ensures { IfSome result (λ fails. IsToldAs whole fails winner pulls one two) }
+fn fails_with(before: bool, changes: Changes) -> Option<bool>
+    ensures { IfSome result (ChangesTell before changes) }
 {
-    if fails(winner, pulls, one, two) {
+    if before {
         return Some(true);
     }
-    if whole && is_quiet(winner, pulls, one, two) {
+    if fails(changes) {
+        return Some(true);
+    }
+    if is_untold(changes) {
         return Some(false);
     }
     None
 }
 
-/// Whether a wanted bit is another where this one wins, before any that stays is.
-fn fails(winner: Winner, pulls: Pulls, one: NoteWords, two: NoteWords) -> bool
-    ensures { result ≡ true → IsFailing winner pulls one two }
+/// Whether a wanted bit is another, before any that stays is.
+#[inline(always)]
+fn fails(changes: Changes) -> bool
+    ensures { result ≡ true → IsFirstWanted changes }
 {
-    let changes = changes_of(winner, pulls, one, two);
     let at = lowest(changes.wanted);
     at < 64 && at <= lowest(changes.stays)
 }
 
-/// Whether nothing is told where this one wins: no wanted bit is another, and none that stays.
-fn is_quiet(winner: Winner, pulls: Pulls, one: NoteWords, two: NoteWords) -> bool
-    ensures { result ≡ true → IsQuiet winner pulls one two }
+/// Whether nothing is told: no wanted bit is another, and none that stays.
+#[inline(always)]
+fn is_untold(changes: Changes) -> bool
+    ensures { result ≡ true → IsUntold changes }
 {
-    quiet_front(winner, pulls, one, two) == 64
+    changes.wanted == 0 && changes.stays == 0
 }
 
 /// Captures behind so many.

@@ -1,24 +1,30 @@
 //! What one play of a program tells of a board's faults.
 
-ghost use Rattle.std.specs.Prelude.{◌≡◌, ◌<◌, drop, length, map, nat_lt, slice_index_or, true, None, IfOk};
+ghost use Rattle.std.specs.Prelude.{◌≡◌, ◌<◌, ◌≤◌, [], drop, length, map, nat_lt, slice_index_or, true, false};
+ghost use Rattle.std.specs.Prelude.{if◌then◌else◌, List, None, IfOk};
 ghost use Rattle.std.specs.List.{AllByRecursion, list_any};
 ghost use Rattle.svf_programs.specs.Sizes.{program_of};
 ghost use Rattle.board_plan.specs.View.{net as planned_net, wiring};
+ghost use Rattle.pin_nets.specs.declared.Pin.{Pin as ThePin};
 ghost use Rattle.play_model.specs.Play.{play};
 ghost use Rattle.board_faults.specs.Faults.{IsFaultOf, IsWayOf};
 ghost use Rattle.board_faults.specs.Listing.{left_of};
 ghost use Rattle.board_faults.specs.Made.{IsReadyPlan, PowersUp, board_of};
 ghost use Rattle.fault_events.specs.Blocks.{noted_in};
 ghost use Rattle.fault_events.specs.Captures as events;
+ghost use Rattle.fault_events.specs.Captures.{AreLeft, IsUnderWay, Noted};
 ghost use Rattle.fault_events.specs.Endings.{and_then, ending_noted};
 ghost use Rattle.fault_serving.specs.Serving as spec;
-ghost use Rattle.fault_serving.specs.Serving.{AreTold, IsChunk, IsFew, IsTelling, MayServe, Serves};
+ghost use Rattle.fault_serving.specs.Serving.{ArePlanes, AreTold, BeginsNoted, IsChunk, IsTelling, MayServe, Serves};
 ghost use Rattle.fault_serving.specs.Serving.{endings_by, judged_on};
 
 use crate::planing::{NoteWords, captures_behind, net_words, quiet_captures};
 use board_faults::{Board, Fault, Faults, Way, next_faults, play_program, ways_of};
 use board_plan::{Plan, PlannedDevice, PlannedNet};
-use fault_events::{Block, Capture, block_of, net_ending, pulls_of, start_play, way_ending};
+use fault_events::{
+    Block, Capture, Captures, NetCapture, block_of, net_ending, pulls_of, put_net_captures,
+    start_play, way_ending,
+};
 use play_model::Ending;
 use std::alloc::{AllocError, Global};
 use svf_programs::Program;
@@ -31,8 +37,23 @@ pub enum Serving {
     /// What is noted at its captures: they are no more than a block holds.
     Whole(Telling),
     /// They are more, so they are noted block by block, in a play for some faults at a time; what is noted of nets at
-    /// the first 64, by words.
-    Blocks(Vec<NoteWords>),
+    /// the first of them.
+    Blocks(Front),
+}
+
+/// What is noted of nets at the first captures of a play: of the first block, if it is kept, and by words of more.
+#[derive(Drop)]
+pub struct Front {
+    pub(crate) captures: Vec<NetCapture>,
+    pub(crate) planes: Planes,
+}
+
+/// What is noted of nets at the first captures of a play, by words, block after block of up to 64; and whether these
+/// are all of its captures.
+#[derive(Drop)]
+pub struct Planes {
+    pub(crate) blocks: Vec<Vec<NoteWords>>,
+    pub(crate) whole: bool,
 }
 
 /// A block of captures, and what is noted of nets at the first 64, by words.
@@ -42,9 +63,14 @@ pub struct Telling {
     pub(crate) words: Vec<NoteWords>,
 }
 
-/// What one play of a program tells of the faults of a planned board that powers up (asked). Refused where memory runs
-/// out.
-pub fn serving_of(alloc: Global, plan: &Plan, program: &Program) -> Result<Serving, AllocError>
+/// What one play of a program tells of the faults of a planned board that powers up (asked), and whether that is kept
+/// from which `may_list` tells. Refused where memory runs out.
+pub fn serving_of(
+    alloc: Global,
+    plan: &Plan,
+    program: &Program,
+    listing: bool,
+) -> Result<Serving, AllocError>
     requires { PowersUp plan.now }
     ensures { IfOk result (MayServe (program_of program.now) (wiring plan.now)) }
 {
@@ -52,7 +78,7 @@ pub fn serving_of(alloc: Global, plan: &Plan, program: &Program) -> Result<Servi
         return Ok(Serving::Nothing);
     }
     match ending_on(alloc, plan, program)? {
-        Ending::Pass => by_one_play(alloc, plan, program),
+        Ending::Pass => by_one_play(alloc, plan, program, listing),
         _ => Ok(Serving::Nothing),
     }
 }
@@ -79,21 +105,123 @@ fn has_strings(device: &PlannedDevice) -> bool
     !device.follows.is_empty()
 }
 
-/// The captures of a play that serves, where they are no more than a block holds.
-fn by_one_play(alloc: Global, plan: &Plan, program: &Program) -> Result<Serving, AllocError>
+/// So many captures are noted at a time.
+const BLOCK: usize = 64;
+
+/// The captures of a play that serves, where they are no more than a block holds; else what is noted of nets at the
+/// first of them, and whether the first block of it is kept.
+fn by_one_play(
+    alloc: Global,
+    plan: &Plan,
+    program: &Program,
+    listing: bool,
+) -> Result<Serving, AllocError>
     requires up { PowersUp plan.now }
     requires serves { Serves (program_of program.now) (wiring plan.now) }
     ensures { IfOk result (MayServe (program_of program.now) (wiring plan.now)) }
 {
     let mut play = start_play(alloc, plan, program)?;
-    let pins = play.next_block(alloc)?;
-    let more = play.next_block(alloc)?;
+    let pins = play.next_block(alloc, BLOCK)?;
+    let more = play.next_block(alloc, 1)?;
+    let all = are_all(&pins, &more);
     let telling = telling_of(alloc, &plan.nets, pins)?;
-    if more.is_empty() {
-        Ok(Serving::Whole(telling))
-    } else {
-        Ok(Serving::Blocks(telling.words))
+    if all {
+        return Ok(Serving::Whole(telling));
     }
+    let captures = kept_if(alloc, listing, telling.block.into_captures());
+    let planes = planes_of(alloc, plan, program, most_blocks(listing))?;
+    Ok(Serving::Blocks(Front { captures, planes }))
+}
+
+/// Whether these captures are no more than a block holds, and none is behind them.
+fn are_all(pins: &[Capture], more: &[Capture]) -> bool
+    ensures few { result ≡ true → length pins.now ≤ 64 }
+    ensures over { result ≡ true → more.now ≡ [] }
+{
+    match more {
+        [] => pins.len() <= BLOCK,
+        _ => false,
+    }
+}
+
+/// Whether these captures are more than a block holds.
+fn is_long(captures: &[NetCapture]) -> bool
+    ensures { result ≡ false → length captures.now ≤ 64 }
+{
+    captures.len() > BLOCK
+}
+
+/// These captures, if they are to be kept.
+fn kept_if(alloc: Global, keep: bool, captures: Vec<NetCapture>) -> Vec<NetCapture>
+    ensures { result.items ≡ if keep then captures.items else [] }
+{
+    if keep { captures } else { Vec::new(alloc) }
+}
+
+/// Words are kept of so many blocks, as much as what is noted of nets at the captures of one; of none for lists.
+fn most_blocks(listing: bool) -> usize
+    ensures { result ≤ 64 }
+{
+    if listing { 0 } else { 64 }
+}
+
+/// What is noted of nets at the first captures of a play, by words, of up to so many blocks; of none from a block on
+/// that has more than 64 captures, since those of a step stay together. Refused where memory runs out.
+fn planes_of(
+    alloc: Global,
+    plan: &Plan,
+    program: &Program,
+    most: usize,
+) -> Result<Planes, AllocError>
+    requires { PowersUp plan.now }
+    ensures { IfOk result (ArePlanes (program_of program.now) (wiring plan.now)) }
+{
+    let mut blocks = Vec::new(alloc);
+    let mut play = start_play(alloc, plan, program)?;
+    'rounds: while blocks.len() < most {
+        let next = next_nets(alloc, &plan.nets, &mut play)?;
+        if next.is_empty() {
+            return Ok(Planes {
+                blocks,
+                whole: true,
+            });
+        }
+        if is_long(&next) {
+            return Ok(Planes {
+                blocks,
+                whole: false,
+            });
+        }
+        let words = net_words(alloc, &next, plan.nets.len())?;
+        blocks.push(words)?;
+    }
+    Ok(Planes {
+        blocks,
+        whole: false,
+    })
+}
+
+/// What is noted of these nets at the next captures of a play: at 64 or a few more, since those of a step stay
+/// together; at fewer at the end of the program, and at none behind it. What is noted of pins is kept of one step at a
+/// time. Refused where memory runs out.
+fn next_nets(
+    alloc: Global,
+    nets: &[PlannedNet],
+    play: &mut Captures<'_>,
+) -> Result<Vec<NetCapture>, AllocError>
+    requires { IsUnderWay play.old }
+    ensures { (cs : List Noted) (pins : List ThePin) → AreLeft cs pins play.old → IfOk result
+        (λ v. BeginsNoted (map planned_net nets.now) cs pins play.old v.items play.new) }
+{
+    let mut list = Vec::new(alloc);
+    'rounds: while list.len() < BLOCK {
+        let next = play.next_block(alloc, 1)?;
+        if next.is_empty() {
+            return Ok(list);
+        }
+        put_net_captures(alloc, nets, &next, &mut list)?;
+    }
+    Ok(list)
 }
 
 /// Captures of a play on these nets, with the words of the nets.
@@ -128,25 +256,38 @@ pub fn told_endings(
             let endings = Vec::from_elem(alloc, Some(Ending::Pass), ways.len())?;
             Ok(judged(telling, &plan.nets, ways, endings))
         }
-        Serving::Blocks(_) => all_endings(alloc, plan, program, ways),
+        Serving::Blocks(front) => {
+            let most = captures_at_once(front.planes.whole);
+            all_endings(alloc, plan, program, ways, most)
+        }
     }
 }
 
-/// How a program ends in each of these ways by all captures of its play on a planned board, block by block.
+/// So many captures are noted at a time: fewer where words have all captures of a play, and few ways are of bridges.
+fn captures_at_once(whole: bool) -> usize
+    ensures { 0 < result }
+{
+    if whole { 32 } else { BLOCK }
+}
+
+/// How a program ends in each of these ways by all captures of its play on a planned board, so many (some, asked) at a
+/// time.
 fn all_endings(
     alloc: Global,
     plan: &Plan,
     program: &Program,
     ways: &[Way],
+    most: usize,
 ) -> Result<Vec<Option<Ending>>, AllocError>
-    requires { PowersUp plan.now }
+    requires up { PowersUp plan.now }
+    requires some { 0 < most }
     ensures { IfOk result (λ v. v.items
         ≡ endings_by (wiring plan.now).nets (events.captures (program_of program.now) (wiring plan.now)) ways.now) }
 {
     let mut endings = Vec::from_elem(alloc, Some(Ending::Pass), ways.len())?;
     let mut play = start_play(alloc, plan, program)?;
     'rounds: while is_any_open(&endings) {
-        let pins = play.next_block(alloc)?;
+        let pins = play.next_block(alloc, most)?;
         if pins.is_empty() {
             return Ok(endings);
         }
@@ -233,8 +374,8 @@ fn told_ending(telling: &Telling, nets: &[PlannedNet], way: Way) -> Option<Endin
     }
 }
 
-/// So many faults at a time where the captures of a play are noted for them, and where they are kept.
-const MANY: usize = 262_144;
+/// So many faults at a time where a program is played for them, and where its captures are kept.
+const MANY: usize = 65_536;
 
 const FEW: usize = 1_024;
 
@@ -277,24 +418,47 @@ pub(crate) fn most_of(serving: &Serving) -> usize
     }
 }
 
-/// What is noted of nets at the first captures, by words; of no net where that tells nothing.
-pub(crate) fn first_words(serving: &Serving) -> &[NoteWords]
-    ensures { result.now ≡ spec.first_words serving.now }
+/// Four of each net, and no fewer than some.
+pub(crate) fn few_of(nets: usize) -> usize
+    ensures { 0 < result }
+{
+    let few = nets.saturating_mul(4);
+    if few < FEW {
+        return FEW;
+    }
+    few
+}
+
+/// What is noted of nets at the first captures, as far as it is kept.
+pub(crate) fn kept_captures(serving: &Serving) -> &[NetCapture]
+    ensures { result.now ≡ spec.kept_captures serving.now }
 {
     match serving {
         Serving::Nothing => &[],
-        Serving::Whole(telling) => &telling.words,
-        Serving::Blocks(words) => words,
+        Serving::Whole(telling) => telling.block.captures(),
+        Serving::Blocks(front) => &front.captures,
     }
 }
 
-/// Whether all captures of a play are kept, and so few that words have them all.
-pub(crate) fn is_few(serving: &Serving) -> bool
-    ensures { result ≡ true → IsFew serving.now }
+/// The same by words, block after block.
+pub(crate) fn first_blocks(serving: &Serving) -> &[Vec<NoteWords>]
+    ensures { result.now ≡ spec.first_blocks serving.now }
 {
     match serving {
-        Serving::Whole(telling) => telling.block.captures().len() <= 64,
-        Serving::Nothing | Serving::Blocks(_) => false,
+        Serving::Nothing => &[],
+        Serving::Whole(telling) => std::slice::from_ref(&telling.words),
+        Serving::Blocks(front) => &front.planes.blocks,
+    }
+}
+
+/// Whether words have all captures of a play.
+pub(crate) fn is_whole(serving: &Serving) -> bool
+    ensures { result ≡ spec.is_whole serving.now }
+{
+    match serving {
+        Serving::Nothing => false,
+        Serving::Whole(_) => true,
+        Serving::Blocks(front) => front.planes.whole,
     }
 }
 

@@ -16,8 +16,8 @@ ghost use Rattle.fault_serving.specs.Serving.{MayServe};
 ghost use Rattle.fault_serving.specs.Sifting as spec;
 ghost use Rattle.fault_serving.specs.Sifting.{AreCounted, ComesBy, IsSieve, IsSifted, IsToldBy, Sifts, nets_of};
 
-use crate::planing::{Failing, NoteWords, failing_ways};
-use crate::serving::{Chunk, Serving, first_words, is_few, most_of, told_endings};
+use crate::planing::{Failing, NoteWords, WINNERS, failing_ways};
+use crate::serving::{Chunk, Serving, few_of, first_blocks, is_whole, most_of, told_endings};
 use board_faults::{Fault, Faults, Sights, Winner, bridge_shows, ways_of};
 use board_plan::{Plan, PlannedNet};
 use fault_events::pulls_of;
@@ -111,10 +111,10 @@ pub struct Sifted {
 }
 
 /// The next of the faults of a planned board that are left, as `next_chunk` has them, but for bridges: where the first
-/// captures of the play tell of each of its ways how the program ends, one is only counted, if that is asked for. That a
-/// way passes is told only where there are no more than 64 captures; whether it shows is told by what is seen of the
-/// board (asked). No other fault is there only where none is left. Refused where memory runs out, or where a count does
-/// not fit.
+/// captures of the play tell of each of its ways how the program ends, one is only counted, if that is asked for. That
+/// a way passes is told only where there are no more than 4,096 captures; whether it shows is told by what is seen of
+/// the board (asked). No other fault is there only where none is left. Refused where memory runs out, or where a count
+/// does not fit.
 pub fn next_sifted(
     alloc: Global,
     serving: &Serving,
@@ -134,20 +134,37 @@ pub fn next_sifted(
     // For the proof alone: what the type keeps of a program's steps.
     let _ = program.len();
     let sieve = Sieve {
-        words: first_words(serving),
-        whole: is_few(serving),
+        blocks: first_blocks(serving),
+        whole: is_whole(serving),
         nets: &plan.nets,
         sights,
         counting,
     };
     let mut faults = Vec::new(alloc);
-    let counts = sift(&sieve, left, most_of(serving), &mut faults)?;
+    let most = most_kept(serving, counting, plan);
+    let counts = sift(&sieve, left, most, &mut faults)?;
     let ways = ways_of(alloc, &faults)?;
     let endings = told_endings(alloc, serving, plan, program, &ways)?;
     Ok(Sifted {
         counts,
         chunk: Chunk { faults, endings },
     })
+}
+
+/// So many faults are kept at a time: few where bridges may be only counted, and words have all captures of a play.
+fn most_kept(serving: &Serving, counting: Counting, plan: &Plan) -> usize
+    ensures { 0 < result }
+{
+    match counting {
+        Counting::Nothing => most_of(serving),
+        Counting::AllButMissed | Counting::Everything => {
+            if is_whole(serving) {
+                few_of(plan.nets.len())
+            } else {
+                most_of(serving)
+            }
+        }
+    }
 }
 
 /// Puts the next of the faults that are left behind none, so many or all of them, but for the bridges that are counted.
@@ -178,11 +195,11 @@ fn sift(
     Ok(counts)
 }
 
-/// What bridges are judged by: what is noted of nets at the first captures of a play, by words; whether these are all of
-/// them; and what is seen of the nets' board.
+/// What bridges are judged by: what is noted of nets at the first captures of a play, by words, block after block;
+/// whether these are all of them; and what is seen of the nets' board.
 #[derive(Drop)]
 pub(crate) struct Sieve<'a> {
-    words: &'a [NoteWords],
+    blocks: &'a [Vec<NoteWords>],
     whole: bool,
     nets: &'a [PlannedNet],
     sights: &'a Sights,
@@ -212,21 +229,9 @@ impl Sieve<'_> {
         let Fault::Short { first, second } = fault else {
             return None;
         };
-        let failing = self.failing(first, second)?;
+        let failing = failing_ways(self.blocks, self.whole, self.nets, first, second)?;
         let missed = self.is_missed(first, second, failing);
         Some(outcome_by(missed, is_any_failing(failing)))
-    }
-
-    /// Of each way of a bridge whether it fails, if words tell it.
-    fn failing(&self, first: usize, second: usize) -> Option<Failing>
-        ensures { (ns : List Noted) → IsSieve ns self.now → IfSome result
-            (λ f. (winner : TheWinner) → IsToldBy self.now ns (failing_at f winner) (way.Short first second winner)) }
-    {
-        if first < self.words.len() && second < self.words.len() {
-            let pulls = pulls_of(self.nets, first, second);
-            return failing_ways(self.whole, pulls, self.words[first], self.words[second]);
-        }
-        None
     }
 
     /// Whether a way of a bridge passes, and shows to some program.
@@ -239,9 +244,6 @@ impl Sieve<'_> {
         })
     }
 }
-
-/// Who may win on a bridge.
-const WINNERS: [Winner; 4] = [Winner::Zeros, Winner::Ones, Winner::First, Winner::Second];
 
 /// Whether a way of a bridge fails.
 fn is_any_failing(failing: Failing) -> bool

@@ -62,7 +62,7 @@ pub(crate) fn tell_faults(
     // For the proof alone: what the type keeps of a program's steps.
     let _ = program.len();
     let mut bench = bench_for(alloc, plan)?;
-    let serving = serving_of(alloc, plan, program)?;
+    let serving = serving_of(alloc, plan, program, listed)?;
     let mut tally = tally_behind(text);
     let mut left = Faults::of(&plan.nets);
     'chunks: loop {

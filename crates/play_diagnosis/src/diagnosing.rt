@@ -112,7 +112,7 @@ fn tell_faults(
         (faults (wiring plan.now).nets) v.items) }
 {
     let mut bench = bench_of(alloc, plan)?;
-    let serving = serving_of(alloc, plan, program)?;
+    let serving = serving_of(alloc, plan, program, true)?;
     let mut text = Vec::new(alloc);
     let mut left = Faults::of(&plan.nets);
     'chunks: loop {

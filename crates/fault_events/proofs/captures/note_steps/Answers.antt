@@ -64,3 +64,17 @@ steps-preserved c =
       fewer = λ some. omega (arith, i.most, ap (λ (l : List Numbered). length l) here);
       most = omega (arith, i.most, ap (λ (l : List Numbered). length l) here);
     }
+
+pub returns : goal.returns
+returns c = λ m is.
+    let i = c.steps.invariant in
+    let x = i.noted m is in
+    record {
+      state = x.0;
+      rests = x.1;
+      kept = x.2;
+      within = i.within;
+      noted = x.3;
+      over = λ none. absurd (omega (arith, c.requires.some, c.steps-test.false, ap (λ (l : List Capture). length l) none));
+      fewer = i.fewer;
+    }

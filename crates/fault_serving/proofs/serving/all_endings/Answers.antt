@@ -23,8 +23,8 @@ rounds-init c =
       judged = c.in_ok-endings.ensures.items_if_clones_equal (λ y h. search rules) ∙ all_open w.nets c.args.ways.now;
     }
 
-pub next_block-requires : goal.next_block-requires
-next_block-requires c = c.rounds.invariant.leaves.way
+pub next_block-requires-clause-way : goal.next_block-requires-clause-way
+next_block-requires-clause-way c = c.rounds.invariant.leaves.way
 
 pub returns-then-is_empty : goal.returns-then-is_empty
 returns-then-is_empty c =

@@ -18,10 +18,10 @@ pub told_endings-requires-clause-ways : goal.told_endings-requires-clause-ways
 told_endings-requires-clause-ways c =
     let w = wiring c.args.plan.now in
     let can : CanBeJudged w = record { ready = c.requires.ready.powers_up.ready; sound = c.requires.ready.powers_up.sound; counted = c.requires.ready.counted } in
-    let s : Sieve = record { words = c.first_words.result; whole = c.is_few.result; nets = c.deref.result; sights = c.args.sights; counting = c.args.counting } in
+    let s : Sieve = record { blocks = c.first_blocks.result; whole = c.is_whole.result; nets = c.deref.result; sights = c.args.sights; counting = c.args.counting } in
     let fs = c.sift.new.kept.items in
     let theirs = sifted_told (program_of c.args.program.now) c.len.ensures.sound.legal w can c.args.sights.now c.requires.sights s
-    (ap (λ (ns : List PlannedNet). map planned_net ns) c.deref.ensures.value) refl c.args.serving.now c.requires.serving c.first_words.ensures c.is_few.ensures
+    (ap (λ (ns : List PlannedNet). map planned_net ns) c.deref.ensures.value) refl c.args.serving.now c.requires.serving c.first_blocks.ensures c.is_whole.ensures
     (left_of c.args.left.now) fs c.in_ok-counts.counts (left_of c.sift.new.left) c.in_ok-counts.ensures.sifts c.requires.faults in
     subst (AllByRecursion (IsWayOf w.nets)) (sym (c.deref-3.ensures.value ∙ c.in_ok-ways.ensures ∙ ap (flat_map ways) c.deref-2.ensures.value))
     (all_ways w.nets fs theirs.theirs)
@@ -31,10 +31,10 @@ returns c =
     let program = program_of c.args.program.now in
     let w = wiring c.args.plan.now in
     let can : CanBeJudged w = record { ready = c.requires.ready.powers_up.ready; sound = c.requires.ready.powers_up.sound; counted = c.requires.ready.counted } in
-    let s : Sieve = record { words = c.first_words.result; whole = c.is_few.result; nets = c.deref.result; sights = c.args.sights; counting = c.args.counting } in
+    let s : Sieve = record { blocks = c.first_blocks.result; whole = c.is_whole.result; nets = c.deref.result; sights = c.args.sights; counting = c.args.counting } in
     let fs = c.sift.new.kept.items in
     let theirs = sifted_told program c.len.ensures.sound.legal w can c.args.sights.now c.requires.sights s
-    (ap (λ (ns : List PlannedNet). map planned_net ns) c.deref.ensures.value) refl c.args.serving.now c.requires.serving c.first_words.ensures c.is_few.ensures
+    (ap (λ (ns : List PlannedNet). map planned_net ns) c.deref.ensures.value) refl c.args.serving.now c.requires.serving c.first_blocks.ensures c.is_whole.ensures
     (left_of c.args.left.now) fs c.in_ok-counts.counts (left_of c.sift.new.left) c.in_ok-counts.ensures.sifts c.requires.faults in
     record {
       sifts = theirs.sifts;
