@@ -1,5 +1,4 @@
 //! The captures of the data column in a program's run on a board, noted.
-
 ghost use Rattle.std.specs.Prelude.{◌≡◌, ◌<◌, ◌++◌, ◌∷◌, [], map, IfOk, OnOk};
 ghost use Rattle.scan_vectors.specs.Held.{bits};
 ghost use Rattle.scan_vectors.specs.Vector.{tdis};
@@ -352,9 +351,7 @@ pub struct Captures<'a> {
     board: Board,
 }
 
-/// A program's play on the board of a plan, from power-up, before its first capture. Refused where memory runs out.
-///
-/// Asks that the plan powers up.
+/// A program's play on the board of a plan that powers up (asked), before its first capture. Refused without memory.
 pub fn start_play<'a>(
     alloc: Global,
     plan: &'a Plan,
@@ -383,11 +380,9 @@ impl<'a> Captures<'a> {
     ghost use Rattle.pin_nets.specs.declared.Pin.{Pin as ThePin};
     ghost use Rattle.fault_events.specs.Captures.{AreLeft, Begins, IsUnderWay, Noted};
 
-    /// What is noted at the next captures of the data column, whatever fails: of so many (some, asked) or a few more,
-    /// since those of a step stay together; of fewer at the end of the program, and of none behind it. Refused where
-    /// memory runs out.
-    ///
-    /// Asks for a play that `start_play` began.
+    /// What is noted at the next captures of a play that `start_play` began (asked), whatever fails: of so many (some,
+    /// asked) or a few more, since those of a step stay together; of fewer at the program's end, and of none behind it.
+    /// Refused where memory runs out.
     pub fn next_block(&mut self, alloc: Global, most: usize) -> Result<Vec<Capture>, AllocError>
         requires some { 0 < most }
         requires way { IsUnderWay self.old }

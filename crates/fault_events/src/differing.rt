@@ -1,5 +1,4 @@
 //! What two groups of pins see otherwise where a fault shows in a way, by what each drives together.
-
 ghost use Rattle.std.specs.Prelude.{◌≡◌};
 ghost use Rattle.board_faults.specs.Together as spec;
 ghost use Rattle.fault_events.specs.Endings as endings;

@@ -1,5 +1,4 @@
 //! What numbered pins drive.
-
 ghost use Rattle.std.specs.Prelude.{◌≡◌, ◌++◌, ◌∷◌, [], map, OnOk};
 ghost use Rattle.jt_bits.specs.Words.{bit_of};
 ghost use Rattle.boundary.specs.Cells as cells;
@@ -48,8 +47,7 @@ fn chip_mode(chip: &WiredChip) -> Mode
     decode(chip.device(), chip.latch()).mode
 }
 
-/// Puts behind those listed the note of each pin before any bit is marked: what it drives. Refused where memory runs
-/// out.
+/// Puts behind those listed the note of each pin before any bit is marked: its drive. Refused where memory runs out.
 pub(crate) fn put_started(
     chain: &Chain,
     devices: &[PlannedDevice],

@@ -1,5 +1,4 @@
 //! The bits of a capture, marked at the pins that they are taken from.
-
 ghost use Rattle.std.specs.Prelude.{◌≡◌, ◌<◌, length, option_map, slice_get, Some};
 ghost use Rattle.scan_vectors.specs.Held.{bits};
 ghost use Rattle.fault_events.specs.Marks.{mark_bit, mark_number, marked, spot_at};

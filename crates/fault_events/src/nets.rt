@@ -1,5 +1,4 @@
 //! Captures as faults of whole nets are judged by them: what is noted of each net.
-
 ghost use Rattle.std.specs.Prelude.{◌≡◌, ◌++◌, drop, map, take, IfOk, OnOk};
 ghost use Rattle.board_plan.specs.View.{net as planned_net};
 ghost use Rattle.fault_events.specs.Captures as captures;
@@ -17,8 +16,7 @@ use pin_nets::Pull;
 use play_model::Ending;
 use std::alloc::{AllocError, Global};
 
-/// A capture of the data column: the number of its statement, counted from 1, and what is noted of each net's pins
-/// together.
+/// A capture of the data column: the number of its statement, from 1, and what is noted of each net's pins together.
 #[derive(Drop)]
 pub struct NetCapture {
     pub command: usize,

@@ -1,10 +1,8 @@
 //! What is noted of pins at a capture.
-
 use board_faults::Driven;
 use scan_vectors::Part;
 
-/// A wanted bit of a whole vector: where it stands there, counted from TDO, and its part with its place there, both
-/// counted from 0.
+/// A wanted bit of a whole vector: its place there from TDO, and its part with its place in that, both from 0.
 #[derive(Drop, Clone, Copy)]
 pub struct Spot {
     pub index: usize,

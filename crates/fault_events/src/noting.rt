@@ -1,5 +1,4 @@
 //! What is noted of every pin of a board at a capture.
-
 ghost use Rattle.std.specs.Prelude.{◌≡◌, map, IfOk};
 ghost use Rattle.scan_vectors.specs.Held.{bits};
 ghost use Rattle.board_model.specs.Chain.{members};

@@ -1,5 +1,4 @@
 //! From which pins a capture of the data column takes its bits, by numbers.
-
 ghost use Rattle.std.specs.Prelude.{◌≡◌, ◌++◌, List, length, map, replicate, None, OnOk};
 ghost use Rattle.chip_instructions.specs.Fitting.{IsFormed, fixed_of};
 ghost use Rattle.board_chips.specs.WiredChips.{member_of};

@@ -1,5 +1,4 @@
 //! The pins of a board's nets by numbers, net after net.
-
 ghost use Rattle.std.specs.Prelude.{◌≡◌, ◌≢◌, ◌++◌, map, IfOk, OnOk};
 ghost use Rattle.std.specs.List.{AllByRecursion, AllPairs};
 ghost use Rattle.board_plan.specs.Planned.{IsPinOf, all_pins};
@@ -151,8 +150,7 @@ fn driver_table(alloc: Global, device: &PlannedDevice) -> Result<Vec<Option<usiz
     Ok(table)
 }
 
-/// Of each pin its device and the cell that drives it, by the driving cells of each device's port bits. Refused where
-/// memory runs out.
+/// Of each pin its device and the cell that drives it, by those of all port bits. Refused where memory runs out.
 pub(crate) fn pin_wires(
     alloc: Global,
     drivers: &[Vec<Option<usize>>],

@@ -1,5 +1,4 @@
 //! What the captures of one play tell of a board's faults.
-
 ghost use Rattle.std.specs.Prelude.{◌≡◌, drop, map, take, IfOk};
 ghost use Rattle.std.specs.List.{remove};
 ghost use Rattle.board_plan.specs.View.{net as planned_net};
