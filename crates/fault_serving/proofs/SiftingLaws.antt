@@ -29,7 +29,7 @@ use Rattle.fault_events.specs.Captures.{Noted, captures}
 use Rattle.fault_events.specs.Endings.{and_then, ending_noted}
 use Rattle.fault_events.specs.Marks.{nothing_noted}
 use Rattle.fault_events.specs.Blocks.{noted_in}
-use Rattle.fault_events.specs.Nets.{ending_by_nets, note_at, seen, with_nets_noted}
+use Rattle.fault_events.specs.Nets.{ending_by_nets, note_at, with_nets_noted}
 use Rattle.fault_events.specs.Notes.{earlier, some_if}
 use Rattle.fault_events.specs.Pulls.{first_by, pulls_of}
 use Rattle.fault_events.proofs.ByNets.{by_nets}

@@ -5,7 +5,6 @@ ghost use Rattle.std.specs.List.{AllByRecursion, list_any};
 ghost use Rattle.svf_programs.specs.Sizes.{program_of};
 ghost use Rattle.board_plan.specs.View.{wiring};
 ghost use Rattle.board_faults.specs.declared.kinds.Way.TheVariants as way;
-ghost use Rattle.board_faults.specs.declared.kinds.Winner.{Winner as TheWinner};
 ghost use Rattle.board_faults.specs.Faults.{IsFaultOf, winners};
 ghost use Rattle.board_faults.specs.Listing.{left_of};
 ghost use Rattle.board_faults.specs.Made.{IsReadyPlan};
@@ -14,13 +13,12 @@ ghost use Rattle.fault_events.specs.Captures.{Noted};
 ghost use Rattle.fault_serving.specs.Planes.{failing_at};
 ghost use Rattle.fault_serving.specs.Serving.{MayServe};
 ghost use Rattle.fault_serving.specs.Sifting as spec;
-ghost use Rattle.fault_serving.specs.Sifting.{AreCounted, ComesBy, IsSieve, IsSifted, IsToldBy, Sifts, nets_of};
+ghost use Rattle.fault_serving.specs.Sifting.{AreCounted, ComesBy, IsSieve, IsSifted, Sifts, nets_of};
 
 use crate::planing::{Failing, NoteWords, WINNERS, failing_ways};
 use crate::serving::{Chunk, Serving, few_of, first_blocks, is_whole, most_of, told_endings};
-use board_faults::{Fault, Faults, Sights, Winner, bridge_shows, ways_of};
+use board_faults::{Fault, Faults, Sights, bridge_shows, ways_of};
 use board_plan::{Plan, PlannedNet};
-use fault_events::pulls_of;
 use std::alloc::{AllocError, Global};
 use svf_programs::Program;
 

@@ -1,4 +1,4 @@
-use Rattle.std.proofs.Common.{◌≡◌, ◌≤◌, ◌++◌, [], List, length, map, sym, ap, subst, ◌∙◌, if◌then◌else◌, arith}
+use Rattle.std.proofs.Common.{◌≡◌, ◌++◌, [], List, length, map, sym, ap, subst, ◌∙◌, if◌then◌else◌, arith}
 use Rattle.std.proofs.lemmas.List.{append-nil, length-map}
 use Rattle.svf_programs.specs.Sizes.{program_of}
 use Rattle.board_plan.specs.declared.plan.PlannedNet.{PlannedNet}
@@ -6,7 +6,6 @@ use Rattle.board_plan.specs.Planned.{all_pins}
 use Rattle.board_plan.specs.View.{net as planned_net, wiring}
 use Rattle.fault_events.specs.declared.captures.Capture.{Capture}
 use Rattle.fault_events.specs.declared.nets.NetCapture.{NetCapture}
-use Rattle.fault_events.specs.Blocks.{noted_in}
 use Rattle.fault_events.specs.Captures.{Noted, captures, seen}
 use Rattle.fault_events.specs.Nets as of_nets
 use Rattle.fault_events.specs.Nets.{with_nets_noted}
