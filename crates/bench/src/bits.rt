@@ -1,5 +1,5 @@
 //! Lists of bits.
-use crate::rows::{Round, Row, Unit, print_row};
+use crate::rows::{Row, Unit, print_row};
 use jt_bits::{Bits, first_bad};
 use std::alloc::{AllocError, Global};
 use std::io;
@@ -48,30 +48,10 @@ pub fn mixed(alloc: Global, n: usize, turned: usize) -> Result<Bits, AllocError>
     Ok(bits)
 }
 
-/// The calls that are measured, with what each is given.
-#[derive(Drop)]
-enum Call<'a> {
-    ShiftIn(&'a mut Bits),
-    FirstBad(&'a Bits, &'a Bits, &'a Bits),
-    FromHex(Global, &'a [u8]),
-    CopyBits(&'a mut Bits, &'a Bits),
-}
-
-impl<'a> Round for Call<'a> {
-    fn round(&mut self) -> Result<Row, AllocError> {
-        match self {
-            Call::ShiftIn(register) => Ok(shift_in(register)),
-            Call::FirstBad(got, want, mask) => Ok(find_first_bad(got, want, mask)),
-            Call::FromHex(alloc, digits) => from_hex(*alloc, digits),
-            Call::CopyBits(to, from) => Ok(copy_bits(to, from)),
-        }
-    }
-}
-
 pub fn rows(rt: &HostRuntime) -> io::Result<()> {
     let alloc = rt.alloc();
     let mut register = mixed(alloc, REGISTER, 5)?;
-    print_row(rt, "shift_in", Unit::Bit, &mut Call::ShiftIn(&mut register))?;
+    print_row(rt, "shift_in", Unit::Bit, || Ok(shift_in(&mut register)))?;
     let got = mixed(alloc, VECTOR, 5)?;
     let mut want = got.resized(alloc, VECTOR)?;
     let last = VECTOR - 1;
@@ -84,25 +64,15 @@ pub fn rows(rt: &HostRuntime) -> io::Result<()> {
         rt,
         "first_bad",
         Unit::Bit,
-        &mut Call::FirstBad(&got, &want, &mask),
+        || Ok(find_first_bad(&got, &want, &mask)),
     )?;
     let mut digits = Vec::with_capacity(alloc, VECTOR / 4)?;
     for k in (0..VECTOR / 4).rev() {
         digits.push(got.hex_digit(k))?;
     }
-    print_row(
-        rt,
-        "from_hex",
-        Unit::Bit,
-        &mut Call::FromHex(alloc, &digits),
-    )?;
+    print_row(rt, "from_hex", Unit::Bit, || from_hex(alloc, &digits))?;
     let mut to = mixed(alloc, VECTOR, 11)?;
-    print_row(
-        rt,
-        "copy_bits",
-        Unit::Bit,
-        &mut Call::CopyBits(&mut to, &got),
-    )
+    print_row(rt, "copy_bits", Unit::Bit, || Ok(copy_bits(&mut to, &got)))
 }
 
 fn shift_in(register: &mut Bits) -> Row {

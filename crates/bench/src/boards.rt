@@ -1,5 +1,5 @@
 //! Rows of the benchmark of boards of described devices with nets, byte by byte.
-use crate::rows::{Round, Row, Unit, print_row};
+use crate::rows::{Row, Unit, print_row};
 use jt_board::{Board, Reply};
 use std::alloc::{AllocError, Global};
 use std::io;
@@ -66,25 +66,6 @@ const RINGS: &[(usize, &str, &str)] = &[
     (256, "shift_256", "update_256"),
 ];
 
-/// What is done with a board, byte by byte.
-#[derive(Drop)]
-enum Call<'a> {
-    Shift(&'a mut Board),
-    Update(&'a mut Board),
-    /// The updates go along a line of devices.
-    PassOn(&'a mut Board),
-}
-
-impl<'a> Round for Call<'a> {
-    fn round(&mut self) -> Result<Row, AllocError> {
-        match self {
-            Call::Shift(board) => Ok(shifted(board)),
-            Call::Update(board) => Ok(updated(board)),
-            Call::PassOn(board) => Ok(line::passed_on(board)),
-        }
-    }
-}
-
 pub fn rows(rt: &HostRuntime) -> io::Result<()> {
     for (devices, shift, update) in RINGS {
         rows_of_ring(rt, *devices, shift, update)?;
@@ -130,8 +111,8 @@ fn rows_of_ring(rt: &HostRuntime, devices: usize, shift: &str, update: &str) -> 
     let Some(mut board) = ring(rt.alloc(), devices)? else {
         return rt.println("bench: a ring is refused");
     };
-    print_row(rt, shift, Unit::Byte, &mut Call::Shift(&mut board))?;
-    print_row(rt, update, Unit::Byte, &mut Call::Update(&mut board))
+    print_row(rt, shift, Unit::Byte, || Ok(shifted(&mut board)))?;
+    print_row(rt, update, Unit::Byte, || Ok(updated(&mut board)))
 }
 
 /// So many devices in a ring, the outputs of each on the inputs of the next.

@@ -1,5 +1,5 @@
 //! The rows of the benchmark of devices, edge by edge.
-use crate::rows::{Round, Row, Unit, print_row};
+use crate::rows::{Row, Unit, print_row};
 use boundary::Boundary;
 use bsdl_device::{Cell, Device, Function, Names, Opcode, Parts, Pattern, Ports};
 use jt_bits::Bits;
@@ -77,16 +77,6 @@ fn cycle(chip: &mut Chip<Boundary>, tms: bool, tdi: bool) {
     chip.fall();
 }
 
-/// The chip whose boundary register is shifted.
-#[derive(Drop)]
-struct Shifted<'a>(&'a mut Chip<Boundary>);
-
-impl<'a> Round for Shifted<'a> {
-    fn round(&mut self) -> Result<Row, AllocError> {
-        Ok(chip_shift(self.0))
-    }
-}
-
 pub fn rows(rt: &HostRuntime) -> io::Result<()> {
     let alloc = rt.alloc();
     let device = device_of(alloc, three_opcodes(alloc)?, 2, CELLS)?;
@@ -100,7 +90,7 @@ pub fn rows(rt: &HostRuntime) -> io::Result<()> {
     }
     let boundary = Boundary::new(alloc, &shared, &core, false)?;
     let mut chip = Chip::new(alloc, &shared, boundary)?;
-    print_row(rt, "chip_shift", Unit::Edge, &mut Shifted(&mut chip))?;
+    print_row(rt, "chip_shift", Unit::Edge, || Ok(chip_shift(&mut chip)))?;
     instructions::rows(rt)
 }
 

@@ -1,6 +1,6 @@
 //! Device descriptions of 4 MiB, and the devices that they say.
 use crate::programs::milliseconds;
-use crate::rows::{Round, Row, Unit, print_row};
+use crate::rows::{Row, Unit, print_row};
 use bsdl_device::Device;
 use std::alloc::{AllocError, Global};
 use std::io::{self, Read};
@@ -35,31 +35,16 @@ const ATTRIBUTES: &str = ");
 /// What is passed over.
 const CONSTANT: &str = "  constant Limit : integer := 12;\n";
 
-/// The text that is read.
-#[derive(Clone, Copy)]
-struct Text<'a>(Global, &'a str);
-
-impl<'a> Round for Text<'a> {
-    fn round(&mut self) -> Result<Row, AllocError> {
-        read(self.0, self.1)
-    }
-}
-
 pub fn rows(rt: &HostRuntime) -> io::Result<()> {
     let alloc = rt.alloc();
     let many = text_of_names(alloc, "P", CELLS)?;
-    print_row(rt, "bsdl_read", Unit::Byte, &mut Text(alloc, many.as_str()))?;
+    print_row(rt, "bsdl_read", Unit::Byte, || read(alloc, many.as_str()))?;
     let mut start = String::new(alloc);
     for _ in 0..LONG {
         start.push('N')?;
     }
     let alike = text_of_names(alloc, start.as_str(), 1)?;
-    print_row(
-        rt,
-        "bsdl_alike",
-        Unit::Byte,
-        &mut Text(alloc, alike.as_str()),
-    )
+    print_row(rt, "bsdl_alike", Unit::Byte, || read(alloc, alike.as_str()))
 }
 
 /// A description whose names of ports begin alike, with so many cells, filled up with what is passed over.

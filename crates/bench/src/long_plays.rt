@@ -1,6 +1,6 @@
 //! Long plays: whole registers beside edges.
 
-use crate::rows::{Round, Row, Unit, print_row};
+use crate::rows::{Row, Unit, print_row};
 use jt_board::{Board, Counted, Reply};
 use play_direct::{accept, play_program, play_program_noted};
 use play_model::Ending;
@@ -23,28 +23,12 @@ const PLAYS: usize = 100;
 /// How many scans of 64 bits there are.
 const SHORT_SCANS: usize = 200_000;
 
-/// The plays that are measured, on so many devices.
-#[derive(Clone, Copy)]
-enum Call {
-    Whole(Global, usize),
-    Edges(Global, usize),
-}
-
-impl Round for Call {
-    fn round(&mut self) -> Result<Row, AllocError> {
-        match *self {
-            Call::Whole(alloc, devices) => Ok(whole(alloc, devices)),
-            Call::Edges(alloc, devices) => edges(alloc, devices),
-        }
-    }
-}
-
 pub fn rows(rt: &HostRuntime) -> io::Result<()> {
     let alloc = rt.alloc();
-    print_row(rt, "play_1", Unit::Byte, &mut Call::Whole(alloc, 1))?;
-    print_row(rt, "edges_1", Unit::Byte, &mut Call::Edges(alloc, 1))?;
-    print_row(rt, "play_32", Unit::Byte, &mut Call::Whole(alloc, 32))?;
-    print_row(rt, "edges_32", Unit::Byte, &mut Call::Edges(alloc, 32))
+    print_row(rt, "play_1", Unit::Byte, || Ok(whole(alloc, 1)))?;
+    print_row(rt, "edges_1", Unit::Byte, || edges(alloc, 1))?;
+    print_row(rt, "play_32", Unit::Byte, || Ok(whole(alloc, 32)))?;
+    print_row(rt, "edges_32", Unit::Byte, || edges(alloc, 32))
 }
 
 /// Prints the seconds of plays that have no row in C.

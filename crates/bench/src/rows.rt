@@ -15,12 +15,6 @@ pub struct Row {
     pub check: u64,
 }
 
-/// A call that is measured, with what it is given.
-pub trait Round {
-    /// Makes the call as often as a round does.
-    fn round(&mut self) -> Result<Row, AllocError>;
-}
-
 /// What a row counts.
 #[derive(Drop, Clone, Copy)]
 pub enum Unit {
@@ -50,18 +44,20 @@ pub fn digest(bytes: &[u8]) -> u64 {
 
 /// Prints a row's name and unit, which C's row has too, its least time of a round in nanoseconds, its count and its
 /// check.
-pub fn print_row<R: Round>(
+pub fn print_row<F: FnMut() -> Result<Row, AllocError>>(
     rt: &HostRuntime,
     name: &str,
     unit: Unit,
-    call: &mut R,
-) -> io::Result<()> {
+    mut round: F,
+) -> io::Result<()>
+    requires { (f : _) → F.pre f }
+{
     let mut least = u64::MAX;
     let mut count = 0;
     let mut check = 0;
     for _ in 0..ROUNDS {
         let start = Instant::now(rt)?;
-        let row = call.round()?;
+        let row = round()?;
         let time = u64::try_from(start.elapsed(rt)?.as_nanos()).unwrap_or(u64::MAX);
         least = least.min(time);
         count = row.count;

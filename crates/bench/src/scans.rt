@@ -2,7 +2,7 @@
 ghost use Rattle.std.specs.Prelude.{◌≡◌};
 
 use crate::bits::mixed;
-use crate::rows::{Round, Row, Unit, digest, print_row};
+use crate::rows::{Row, Unit, digest, print_row};
 use bitbang::StepBytes;
 use jt_bits::Bits;
 use jt_tap::{Column, State};
@@ -96,35 +96,15 @@ fn rows_of_parts(
         return Ok(());
     }
     let vector = join(header.part(), data.part(), trailer.part());
-    bit_rows(rt, vector)?;
+    bit_rows(rt, &vector)?;
     byte_rows(rt, vector)
 }
 
-/// The calls that are measured, with what each is given.
-#[derive(Drop)]
-enum Call<'a> {
-    VectorBits(Vector<'a>),
-    Judge(Vector<'a>, &'a Bits),
-    ScanBytes(Vector<'a>, &'a mut [u8]),
-    RunBytes(&'a mut [u8]),
-}
-
-impl<'a> Round for Call<'a> {
-    fn round(&mut self) -> Result<Row, AllocError> {
-        match self {
-            Call::VectorBits(vector) => Ok(vector_bits(vector)),
-            Call::Judge(vector, out) => Ok(judged(vector, out)),
-            Call::ScanBytes(vector, buffer) => Ok(scan_bytes(*vector, buffer)),
-            Call::RunBytes(buffer) => Ok(run_bytes(buffer)),
-        }
-    }
-}
-
 /// The rows of bits.
-fn bit_rows(rt: &HostRuntime, vector: Vector) -> io::Result<()> {
-    let out = all_but_the_last(rt.alloc(), &vector)?;
-    print_row(rt, "vector_bits", Unit::Bit, &mut Call::VectorBits(vector))?;
-    print_row(rt, "judge", Unit::Bit, &mut Call::Judge(vector, &out))
+fn bit_rows(rt: &HostRuntime, vector: &Vector) -> io::Result<()> {
+    let out = all_but_the_last(rt.alloc(), vector)?;
+    print_row(rt, "vector_bits", Unit::Bit, || Ok(vector_bits(vector)))?;
+    print_row(rt, "judge", Unit::Bit, || Ok(judged(vector, &out)))
 }
 
 /// The rows of bytes.
@@ -134,14 +114,9 @@ fn byte_rows(rt: &HostRuntime, vector: Vector) -> io::Result<()> {
         rt,
         "scan_bytes",
         Unit::Byte,
-        &mut Call::ScanBytes(vector, &mut buffer),
+        || Ok(scan_bytes(vector, &mut buffer)),
     )?;
-    print_row(
-        rt,
-        "run_bytes",
-        Unit::Byte,
-        &mut Call::RunBytes(&mut buffer),
-    )
+    print_row(rt, "run_bytes", Unit::Byte, || Ok(run_bytes(&mut buffer)))
 }
 
 fn vector_bits(vector: &Vector) -> Row {

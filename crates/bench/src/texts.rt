@@ -1,6 +1,6 @@
 //! Texts of SVF, and the statements that they are.
 use crate::bits::Numbers;
-use crate::rows::{Round, Row, Unit, print_row};
+use crate::rows::{Row, Unit, print_row};
 use jt_bits::Bits;
 use std::alloc::{AllocError, Global};
 use std::io;
@@ -16,24 +16,14 @@ const LONG_SCANS: usize = 60;
 /// How many digits a long field has.
 const LONG_DIGITS: usize = 16384;
 
-/// The text that is read.
-#[derive(Clone, Copy)]
-struct Text<'a>(Global, &'a [u8]);
-
-impl<'a> Round for Text<'a> {
-    fn round(&mut self) -> Result<Row, AllocError> {
-        Ok(read(self.0, self.1))
-    }
-}
-
 pub fn rows(rt: &HostRuntime) -> io::Result<()> {
     let alloc = rt.alloc();
     let paths = paths(alloc)?;
-    print_row(rt, "svf_states", Unit::Byte, &mut Text(alloc, &paths))?;
+    print_row(rt, "svf_states", Unit::Byte, || Ok(read(alloc, &paths)))?;
     let short = short_scans(alloc)?;
-    print_row(rt, "svf_short", Unit::Byte, &mut Text(alloc, &short))?;
+    print_row(rt, "svf_short", Unit::Byte, || Ok(read(alloc, &short)))?;
     let long = long_scans(alloc)?;
-    print_row(rt, "svf_long", Unit::Byte, &mut Text(alloc, &long))
+    print_row(rt, "svf_long", Unit::Byte, || Ok(read(alloc, &long)))
 }
 
 fn paths(alloc: Global) -> Result<Vec<u8>, AllocError> {

@@ -1,7 +1,7 @@
 //! Whole plays over pipes: the bytes of a player, and the edges of a board of a bare device.
 ghost use Rattle.std.specs.Prelude.{◌<◌};
 
-use crate::rows::{Round, Row, Unit, digest, print_row};
+use crate::rows::{Row, Unit, digest, print_row};
 use jt_board::Board;
 use play_direct::accept;
 use play_model::Ending;
@@ -21,23 +21,6 @@ const UNWANTED: &[u8] = b"SDR 65536 TDI (0);";
 
 const UNWANTED_BYTES: usize = 12 + 8 + 2 * 65536 + 5 + 1;
 
-/// The calls that are measured, with what each is given.
-#[derive(Drop)]
-enum Call<'a> {
-    NextBytes(Global, &'a mut [u8]),
-    /// A play over two pipes of this room.
-    Finish(Global, usize),
-}
-
-impl<'a> Round for Call<'a> {
-    fn round(&mut self) -> Result<Row, AllocError> {
-        match self {
-            Call::NextBytes(alloc, buffer) => Ok(next_bytes(*alloc, buffer)),
-            Call::Finish(alloc, room) => Ok(finished(*alloc, *room)),
-        }
-    }
-}
-
 pub fn rows(rt: &HostRuntime) -> io::Result<()> {
     let alloc = rt.alloc();
     let mut buffer = Vec::from_elem(alloc, 0, UNWANTED_BYTES)?;
@@ -45,15 +28,15 @@ pub fn rows(rt: &HostRuntime) -> io::Result<()> {
         rt,
         "next_bytes",
         Unit::Byte,
-        &mut Call::NextBytes(alloc, &mut buffer),
+        || Ok(next_bytes(alloc, &mut buffer)),
     )?;
-    print_row(rt, "finish_1", Unit::Byte, &mut Call::Finish(alloc, 1))?;
-    print_row(rt, "finish_64", Unit::Byte, &mut Call::Finish(alloc, 64))?;
+    print_row(rt, "finish_1", Unit::Byte, || Ok(finished(alloc, 1)))?;
+    print_row(rt, "finish_64", Unit::Byte, || Ok(finished(alloc, 64)))?;
     print_row(
         rt,
         "finish_65536",
         Unit::Byte,
-        &mut Call::Finish(alloc, 65536),
+        || Ok(finished(alloc, 65536)),
     )
 }
 

@@ -1,6 +1,6 @@
 //! Rows of a line of devices whose cores pass on what they see: what the last one drives goes along all to the first.
 
-use crate::boards::{Call, Probe};
+use crate::boards::Probe;
 use crate::rows::{Row, Unit, print_row};
 use jt_board::Board;
 use std::alloc::{AllocError, Global};
@@ -21,7 +21,7 @@ pub fn rows(rt: &HostRuntime) -> io::Result<()> {
     let Some(mut board) = line(rt.alloc())? else {
         return rt.println("bench: a line is refused");
     };
-    print_row(rt, "follow_1000", Unit::Byte, &mut Call::PassOn(&mut board))
+    print_row(rt, "follow_1000", Unit::Byte, || Ok(passed_on(&mut board)))
 }
 
 /// The devices in a line, the outputs of each on the inputs of the one before it.
@@ -111,7 +111,7 @@ fn under_test(board: &mut Board) -> Probe<'_> {
 }
 
 /// So many times a capture, eight bits shifted, and an update that goes along the line.
-pub(super) fn passed_on(board: &mut Board) -> Row {
+fn passed_on(board: &mut Board) -> Row {
     let mut probe = under_test(board);
     for i in 0..UPDATES {
         probe.walk(b"00");

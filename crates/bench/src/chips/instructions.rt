@@ -1,7 +1,7 @@
 //! The row of many instructions: devices that share a description of many opcodes, and new codes again and again.
 
 use crate::chips::{cycle, device_of, opcode};
-use crate::rows::{Round, Row, Unit, print_row};
+use crate::rows::{Row, Unit, print_row};
 use boundary::Boundary;
 use bsdl_device::Opcode;
 use jt_bits::Bits;
@@ -88,16 +88,6 @@ fn scans(chips: &mut [Chip<Boundary>]) -> Row {
     Row { count, check }
 }
 
-/// The devices to which new instructions are given.
-#[derive(Drop)]
-struct Instructed<'a>(&'a mut [Chip<Boundary>]);
-
-impl<'a> Round for Instructed<'a> {
-    fn round(&mut self) -> Result<Row, AllocError> {
-        Ok(scans(self.0))
-    }
-}
-
 pub(crate) fn rows(rt: &HostRuntime) -> io::Result<()> {
     let alloc = rt.alloc();
     let device = device_of(alloc, rows_of(alloc)?, LENGTH, 1)?;
@@ -110,5 +100,5 @@ pub(crate) fn rows(rt: &HostRuntime) -> io::Result<()> {
             None => return Ok(()),
         }
     }
-    print_row(rt, "decode_32", Unit::Edge, &mut Instructed(&mut chips))
+    print_row(rt, "decode_32", Unit::Edge, || Ok(scans(&mut chips)))
 }
