@@ -375,7 +375,7 @@ fn told_ending(telling: &Telling, nets: &[PlannedNet], way: Way) -> Option<Endin
 }
 
 /// So many faults at a time where a program is played for them, and where its captures are kept.
-const MANY: usize = 65_536;
+const MANY: usize = 262_144;
 
 const FEW: usize = 1_024;
 
